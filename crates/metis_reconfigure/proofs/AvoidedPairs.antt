@@ -217,13 +217,12 @@ module _ (u : Universe) (k : IsUniverse u) (wishes : List Wish) (old : List Acti
         let there : pair_of (at left front) y ≡ Some well.0 = ap (λ d. pair_of d y) (residual_after_all u (λ t. length (g t)) (avoided u wishes) empty front) ∙ well.1 in
         let made = pair_touched (At (is_made front)) left y front (touches_own left front (going_from_steady left front front_steady)) (IsSome_at _ _ there) in
         let beside = (completion u k old s0 g are_given (avoided u wishes) front front_steady apart).1 in
-        inr (
-          apart y made,
+        inr (apart y made, (
           well.0,
           ap (λ l. pair_of (left_by u (old ++ l)) y) one.3 ∙ beside.new_pairs y (apart y made) ∙ well.1,
           well.2,
           unavoided u wishes c r.leaving well.0 s well.2 well.3,
-        )
+        ))
   ]
 
   abbrev label : ℕ → ℕ
@@ -249,7 +248,7 @@ module _ (u : Universe) (k : IsUniverse u) (wishes : List Wish) (old : List Acti
             let kept = binds_keep u stood (anew_ties u k wishes old s0 r.leaving r.leave ts r.plan r.planned) before (Bind s z y ∷ rest) y (sym (anew_are u k wishes old s0 goals r) ∙ is) in
             let same : left_by u (old ++ (fresh ++ before)) ≡ after_all u stood before = ap (left_by u) (sym (append_assoc old fresh before)) ∙ after_all-append u empty (old ++ fresh) before in
             let new_one = subst (λ x. is_made old x ≡ false) f.named (name_unused u k wishes old s0 r.leaving r.leave ts r.plan r.planned f.number) in
-            inr (new_one, p, ap (λ d. pair_of d y) same ∙ kept ∙ stands, f.gives_it, unavoided u wishes c r.leaving p s f.gives_it off)
+            inr (new_one, (p, ap (λ d. pair_of d y) same ∙ kept ∙ stands, f.gives_it, unavoided u wishes c r.leaving p s f.gives_it off))
       ]
 
   pub binds_go_well : (earlier rest : List Action) (s z y : ℕ) → fresh ++ rebinds_in r ≡ earlier ++ Bind s z y ∷ rest → GoesWell r earlier s y

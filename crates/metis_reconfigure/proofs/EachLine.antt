@@ -1,7 +1,7 @@
 -- What each line of wishes comes to in the end.
-use Rattle.std.proofs.Common.{◌≡◌, ℕ, zero, suc, ◌<◌, true, false, ◌||◌, List, [], ◌∷◌, ◌++◌, Some, None, length, refl, sym, ap, ◌∙◌, subst, arith, nat_eq, cond}
+use Rattle.std.proofs.Common.{◌≡◌, ℕ, zero, suc, ◌<◌, Bool, true, false, ◌||◌, List, [], ◌∷◌, ◌++◌, Option, Some, None, length, refl, sym, ap, ◌∙◌, subst, arith, nat_eq, cond}
 use Rattle.std.specs.Prelude.{IsSome}
-use Rattle.std.specs.List.{Contains, filter_map, list_any, slice_index_or}
+use Rattle.std.specs.List.{Contains, cons_option, filter_map, list_any, slice_index_or}
 use Rattle.std.specs.Option.{option_map_or}
 use Rattle.std.proofs.lemmas.Bool.{eq-eqb, or_left, or_right}
 use Rattle.metis_ids.proofs.Lists.{has-append}
@@ -13,7 +13,7 @@ use Rattle.metis_rollout.proofs.Quiet.{keys-has}
 use Rattle.metis_rollout.proofs.Removal.{left_config}
 use Rattle.metis_rollout.specs.Terms.{members}
 use Rattle.metis_universe.specs.Terms.{Config, IsConfig, IsUniverse, Universe, has, pair_of}
-use Rattle.metis_wishes.specs.Terms.{is_avoided, is_keep_all, keeps_all, kept, kept_of, named, rebound, rebound_of, retired, retired_of}
+use Rattle.metis_wishes.specs.Terms.{instance_of, is_avoided, is_keep_all, keeps_all, kept, kept_of, named, rebound, rebound_of, retired, retired_of, subject_of}
 use Rattle.metis_wishes.specs.declared.wish.Wish.{Wish}
 use Rattle.metis_wishes.specs.declared.wish.Wish.TheVariants.{Keep, KeepAll, Rebind, Retire}
 use Rattle.metis_reconfigure.specs.Terms.{IsAnswered, Reconfiguration, at_end, is_root, left_by, settled, wished}
@@ -24,7 +24,7 @@ use Rattle.metis_reconfigure.proofs.Keeping.{leaving_gone, wished_in_the_end}
 
 -- what a function makes of an element is in the list of what it makes
 made_of : {A : Type 0} (f : A → Option ℕ) (xs : List A) (x : A) (z : ℕ) → Contains xs x → f x ≡ Some z → has (filter_map f xs) z ≡ true
-made_of f xs x z (n, low, is) to = by n xs low is where
+made_of {A = A} f xs x z (n, low, is) to = by n xs low is where
   has_more : (o : Option ℕ) (ys : List ℕ) → has ys z ≡ true → has (cons_option o ys) z ≡ true
   has_more None ys h = h
   has_more (Some w) ys h = or_right (nat_eq w z) (has ys z) h
@@ -35,7 +35,7 @@ made_of f xs x z (n, low, is) to = by n xs low is where
   by (suc n) (y ∷ xs) low is = has_more (f y) (filter_map f xs) (by n xs (omega arith) is)
 
 any_of : {A : Type 0} (t : A → Bool) (xs : List A) (x : A) → Contains xs x → t x ≡ true → list_any t xs ≡ true
-any_of t xs x (n, low, is) passes = by n xs low is where
+any_of {A = A} t xs x (n, low, is) passes = by n xs low is where
   by : (n : ℕ) (xs : List A) → n < length xs → slice_index_or xs n x ≡ x → list_any t xs ≡ true
   by n [] low is = absurd (omega arith)
   by zero (y ∷ xs) low is = or_left (t y) _ (ap t is ∙ passes)

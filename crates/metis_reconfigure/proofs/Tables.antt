@@ -115,19 +115,20 @@ module _ (u : Universe) (c : Config) (leaving ts : List ℕ) (r : ℕ) where
   there = length (given u c leaving r) + count_by (λ p. provides u p r) ts
 
   -- one that lacks the port and is not unserved wants no more than there are
-  wants_low : (z : ℕ) → nat_lt (count_by (λ p. provides u p r) ts) (wants u c r z - length (given u c leaving r)) ≡ false → wants u c r z ≤ there
+  pub wants_low : (z : ℕ) → nat_lt (count_by (λ p. provides u p r) ts) (wants u c r z - length (given u c leaving r)) ≡ false → wants u c r z ≤ there
   wants_low z h = let most = ltb-false (count_by (λ p. provides u p r) ts) (wants u c r z - length (given u c leaving r)) h in omega (arith, most)
 
   wanted_low : (zs : List ℕ) (a : ℕ) → a ≤ there → find (is_unserved u c leaving ts r) zs ≡ None → fold max a (map (wants u c r) (filter lacks zs)) ≤ there
   wanted_low [] a low none = low
-  wanted_low (z ∷ zs) a low none = by (lacks z) (nat_lt (count_by (λ p. provides u p r) ts) (wants u c r z - length (given u c leaving r))) refl none where
-    by : (b e : Bool) → nat_lt (count_by (λ p. provides u p r) ts) (wants u c r z - length (given u c leaving r)) ≡ e
+  wanted_low (z ∷ zs) a low none = by (wanted_low zs) (lacks z) (nat_lt (count_by (λ p. provides u p r) ts) (wants u c r z - length (given u c leaving r))) refl none where
+    by : ((a : ℕ) → a ≤ there → find (is_unserved u c leaving ts r) zs ≡ None → fold max a (map (wants u c r) (filter lacks zs)) ≤ there)
+        → (b e : Bool) → nat_lt (count_by (λ p. provides u p r) ts) (wants u c r z - length (given u c leaving r)) ≡ e
         → cond (b && e) (Some z) (find (is_unserved u c leaving ts r) zs) ≡ None → fold max a (map (wants u c r) (cond b (z ∷ filter lacks zs) (filter lacks zs))) ≤ there
-    by true true is h = absurd (some_none h) where
+    by rest true true is h = absurd (some_none h) where
       some_none : Some z ≡ None → ⊥
       some_none h = cc
-    by true false is h = wanted_low zs (max a (wants u c r z)) (max-le low (wants_low z is)) h
-    by false e is h = wanted_low zs a low h
+    by rest true false is h = rest (max a (wants u c r z)) (max-le low (wants_low z is)) h
+    by rest false e is h = rest a low h
 
   -- where none is unserved the port is not short
   pub none_unserved : (zs : List ℕ) → find (is_unserved u c leaving ts r) zs ≡ None → short u c leaving zs ts r ≡ 0

@@ -4,7 +4,7 @@ use Rattle.std.specs.Prelude.{IsFalse, IsSome, IsTrue, is_some}
 use Rattle.std.specs.List.{count_by, filter, find, range_with_len}
 use Rattle.std.specs.List.Sorted.{IsStrictlySortedBy}
 use Rattle.std.specs.Ordering.{nat_cmp}
-use Rattle.std.proofs.lemmas.Bool.{and_from, and_parts, both_ways, false_from_ne_true, lt-ltb, ltb-false, or_cases}
+use Rattle.std.proofs.lemmas.Bool.{and_from, and_parts, both_ways, eqb-true, false_from_ne_true, lt-ltb, ltb-false, or_cases}
 use Rattle.std.proofs.lemmas.List.Kept.{IsStrictlySortedBy-filter}
 use Rattle.metis_ids.proofs.Lists.{above_head, has-filter}
 use Rattle.metis_ids.proofs.Options.{IsSome_at}

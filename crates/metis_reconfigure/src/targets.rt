@@ -1,5 +1,5 @@
 //! What is to be planned for.
-ghost use Rattle.std.specs.Prelude.{◌≡◌, ◌<◌, ◌++◌, ◌||◌, ℕ, List, IfOk, OnOk, replicate, if◌then◌else◌};
+ghost use Rattle.std.specs.Prelude.{◌≡◌, ◌<◌, ◌++◌, ◌-◌, ◌&&◌, ◌||◌, ℕ, List, IfOk, OnOk, length, nat_lt, replicate, if◌then◌else◌};
 ghost use Rattle.std.specs.List.{All, count_by, filter_map, find, range_with_len};
 ghost use Rattle.metis_config.specs.Terms.{IsOver, demanded};
 ghost use Rattle.metis_universe.specs.Terms.{IsGoalOf, Universe, has, pair_count, port_count, provides};
@@ -132,12 +132,27 @@ fn first_unserved(
 {
     let planned = providing(u, targets, port);
     for z in rebound {
-        let unserved = wants(u, c, port, *z).saturating_sub(standing.len() as u64);
-        if lack_among(u, c, standing, *z, port) > 0 && unserved > planned {
+        if wants_more(u, c, standing, *z, port, planned) {
             return Some(*z);
         }
     }
     None
+}
+
+// Whether the instance lacks the port, and wants more providers of it than the standing ones and so many that are planned.
+fn wants_more(
+    u: &Universe,
+    c: &Config,
+    standing: &[InstNo],
+    z: InstNo,
+    port: PortIx,
+    planned: u64,
+) -> bool
+    requires { IsOver u.now c.now }
+    ensures { result ≡ (is_lacking u.now c.now standing.now port z && nat_lt planned (wants u.now c.now port z - length standing.now)) }
+{
+    let lacks = lack_among(u, c, standing, z, port) > 0;
+    lacks && wants(u, c, port, z).saturating_sub(standing.len() as u64) > planned
 }
 
 // How many providers of the port have to be there for these instances.
