@@ -1,14 +1,12 @@
 -- What is known where nothing stands in the way: the wishes and the goals can be answered, and there is a plan for the targets.
-use Rattle.std.proofs.Common.{◌≡◌, ℕ, zero, suc, ◌+◌, ◌<◌, ◌≤◌, ◌^◌, Bool, true, false, cond, not, ◌&&◌, ◌||◌, List, [], ◌∷◌, ◌++◌, Option, Some, None, length, map, replicate, refl, sym, ap, ◌∙◌, subst, arith, nat_eq, inl, inr}
-use Rattle.std.specs.Prelude.{nat_le, IsFalse, IsSome, IsTrue}
+use Rattle.std.proofs.Common.{◌≡◌, ℕ, zero, suc, ◌+◌, ◌<◌, ◌≤◌, Bool, true, false, cond, not, ◌&&◌, List, [], ◌∷◌, ◌++◌, Option, Some, None, length, replicate, refl, sym, ap, ◌∙◌, subst, arith, nat_eq, inl, inr}
+use Rattle.std.specs.Prelude.{nat_le, IsFalse, IsSome}
 use Rattle.std.specs.BTreeMap.{insert_entry}
-use Rattle.std.specs.List.{All, Contains, cons_option, filter, filter_map, find, range_with_len, slice_index_or}
-use Rattle.std.specs.Map.{keys_of}
+use Rattle.std.specs.List.{All, Contains, cons_option, filter_map, find, range_with_len}
 use Rattle.std.specs.Option.{is_some, option_map_or}
 use Rattle.std.specs.Ordering.{match_ordering, nat_cmp}
 use Rattle.std.specs.declared.cmp.Ordering.TheVariants.{Less, Equal, Greater}
-use Rattle.std.proofs.lemmas.Bool.{and_from, and_parts, both_ways, eq-eqb, eqb-true, false_from_ne_true, false≢true, or_cases, or_left, or_parts, or_right}
-use Rattle.std.proofs.lemmas.List.{length-map}
+use Rattle.std.proofs.lemmas.Bool.{and_from, and_parts, false_from_ne_true, false≢true, or_cases, or_left, or_parts, or_right}
 use Rattle.std.proofs.lemmas.Map.Entries.{length-keys_of}
 use Rattle.std.proofs.lemmas.List.Elements.{All-append, All-cons, All-head, All-nil, All-tail}
 use Rattle.std.proofs.lemmas.Option.{same_Some}
@@ -30,7 +28,7 @@ use Rattle.metis_universe.specs.Terms.{Attains, Config, IsGoalOf, IsUniverse, Un
 use Rattle.metis_wishes.specs.Terms.{instance_of, is_avoided, kept, kept_of, named, rebound, rebound_of, subject_of}
 use Rattle.metis_wishes.specs.declared.wish.Wish.{Wish}
 use Rattle.metis_wishes.specs.declared.wish.Wish.TheVariants.{Keep, KeepAll, Rebind, Retire, AvoidType, AvoidPair}
-use Rattle.metis_reconfigure.specs.Terms.{AreAims, AreMet, AreTables, AreWithin, IsAnswerable, IsBar, IsGround, IsLeft, IsUnmet, absent, firm_leaving, first_unavoidable, given, gives, is_absent, is_firm, is_unavoidable, left_by, left_to_plan, missing, missing_behind, pair_for, providers_short, rebound_in, serving_among, settled, short, targets, targets_behind}
+use Rattle.metis_reconfigure.specs.Terms.{AreAims, AreMet, AreTables, AreWithin, IsAnswerable, IsBar, IsGround, IsLeft, IsUnmet, firm_leaving, first_unavoidable, given, gives, is_absent, is_firm, is_unavoidable, left_by, left_to_plan, missing, missing_behind, pair_for, providers_short, rebound_in, serving_among, settled, short, targets, targets_behind}
 use Rattle.metis_reconfigure.specs.declared.answer.Bar.TheVariants as bar
 use Rattle.metis_reconfigure.specs.declared.answer.Obstacle.TheVariants.{Needs, Unavoidable, Unmet}
 use Rattle.metis_reconfigure.proofs.Roots.{found_passes, none_found}

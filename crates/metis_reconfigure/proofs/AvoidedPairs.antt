@@ -217,12 +217,15 @@ module _ (u : Universe) (k : IsUniverse u) (wishes : List Wish) (old : List Acti
         let there : pair_of (at left front) y ≡ Some well.0 = ap (λ d. pair_of d y) (residual_after_all u (λ t. length (g t)) (avoided u wishes) empty front) ∙ well.1 in
         let made = pair_touched (At (is_made front)) left y front (touches_own left front (going_from_steady left front front_steady)) (IsSome_at _ _ there) in
         let beside = (completion u k old s0 g are_given (avoided u wishes) front front_steady apart).1 in
-        inr (apart y made, (
-          well.0,
-          ap (λ l. pair_of (left_by u (old ++ l)) y) one.3 ∙ beside.new_pairs y (apart y made) ∙ well.1,
-          well.2,
-          unavoided u wishes c r.leaving well.0 s well.2 well.3,
-        ))
+        inr (
+          apart y made,
+          (
+            well.0,
+            ap (λ l. pair_of (left_by u (old ++ l)) y) one.3 ∙ beside.new_pairs y (apart y made) ∙ well.1,
+            well.2,
+            unavoided u wishes c r.leaving well.0 s well.2 well.3,
+          ),
+        )
   ]
 
   abbrev label : ℕ → ℕ

@@ -1,5 +1,5 @@
 -- What each line of wishes comes to in the end.
-use Rattle.std.proofs.Common.{◌≡◌, ℕ, zero, suc, ◌<◌, Bool, true, false, ◌||◌, List, [], ◌∷◌, ◌++◌, Option, Some, None, length, refl, sym, ap, ◌∙◌, subst, arith, nat_eq, cond}
+use Rattle.std.proofs.Common.{◌≡◌, ℕ, zero, suc, ◌<◌, Bool, true, false, List, [], ◌∷◌, ◌++◌, Option, Some, None, length, refl, ap, ◌∙◌, arith, nat_eq, cond}
 use Rattle.std.specs.Prelude.{IsSome}
 use Rattle.std.specs.List.{Contains, cons_option, filter_map, list_any, slice_index_or}
 use Rattle.std.specs.Option.{option_map_or}
@@ -11,9 +11,8 @@ use Rattle.metis_ids.specs.declared.goals.Goal.{Goal}
 use Rattle.metis_rollout.proofs.Going.{going_from_steady}
 use Rattle.metis_rollout.proofs.Quiet.{keys-has}
 use Rattle.metis_rollout.proofs.Removal.{left_config}
-use Rattle.metis_rollout.specs.Terms.{members}
 use Rattle.metis_universe.specs.Terms.{Config, IsConfig, IsUniverse, Universe, has, pair_of}
-use Rattle.metis_wishes.specs.Terms.{instance_of, is_avoided, is_keep_all, keeps_all, kept, kept_of, named, rebound, rebound_of, retired, retired_of, subject_of}
+use Rattle.metis_wishes.specs.Terms.{instance_of, is_avoided, is_keep_all, keeps_all, kept, kept_of, rebound, rebound_of, retired, retired_of, subject_of}
 use Rattle.metis_wishes.specs.declared.wish.Wish.{Wish}
 use Rattle.metis_wishes.specs.declared.wish.Wish.TheVariants.{Keep, KeepAll, Rebind, Retire}
 use Rattle.metis_reconfigure.specs.Terms.{IsAnswered, Reconfiguration, at_end, is_root, left_by, settled, wished}

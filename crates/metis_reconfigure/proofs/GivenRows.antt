@@ -1,5 +1,5 @@
 -- The given instances of each port, as they are put into rows.
-use Rattle.std.proofs.Common.{◌≡◌, ℕ, zero, suc, ◌+◌, ◌<◌, ◌≤◌, Bool, true, false, cond, not, ◌||◌, List, [], ◌∷◌, ◌++◌, Option, Some, None, get_or, length, map, take, refl, sym, ap, ◌∙◌, subst, arith, nat_eq, inl, inr, append-nil, append_assoc}
+use Rattle.std.proofs.Common.{◌≡◌, ℕ, zero, suc, ◌+◌, ◌<◌, ◌≤◌, Bool, true, false, cond, not, ◌||◌, List, [], ◌∷◌, ◌++◌, None, get_or, length, map, take, refl, sym, ap, ◌∙◌, subst, arith, nat_eq, inl, inr, append-nil, append_assoc}
 use Rattle.std.specs.Prelude.{replicate, slice_set}
 use Rattle.std.specs.List.{filter, range_with_len, slice_index_or}
 use Rattle.std.specs.Map.{keys_of}
@@ -10,7 +10,7 @@ use Rattle.std.proofs.lemmas.List.FromFn.{get_or-map-range_with_len, length-rang
 use Rattle.metis_ids.proofs.Lists.{has-append, has_at}
 use Rattle.metis_universe.specs.Terms.{AreDifferent, Config, Universe, has, pair_of, provides}
 use Rattle.metis_completion.specs.Terms.{given_in}
-use Rattle.metis_reconfigure.specs.Terms.{given, gives, settled}
+use Rattle.metis_reconfigure.specs.Terms.{given, gives}
 
 -- ---- rows
 

@@ -5,7 +5,7 @@ use Rattle.std.specs.Prelude.{◌⊎◌, nat_le}
 use Rattle.std.specs.List.{cons_option, filter, filter_map, find, flat_map, list_all, list_any, range_with_len}
 use Rattle.std.proofs.lemmas.Bool.{and_from, and_parts, both_ways, cases_eq, cases_lt, eq-eqb, eqb-true, false_from_ne_true, false≢true, lt-leb, ne_eqb, not-true, or_cases, or_left, or_right}
 use Rattle.std.proofs.lemmas.List.Elements.{filter_map-append}
-use Rattle.metis_emit.specs.Terms.{IsLeastAfter, IsLeastOrder, before_end, binds, can_go, emission, event_actions, gained, move_actions, unbinds}
+use Rattle.metis_emit.specs.Terms.{IsLeastAfter, before_end, binds, can_go, event_actions, gained, move_actions, unbinds}
 use Rattle.metis_events.proofs.Numbered.{graph_of_plan}
 use Rattle.metis_emit.proofs.Numbered.{least_numbers}
 use Rattle.metis_ids.proofs.Lists.{in_range}
@@ -15,7 +15,7 @@ use Rattle.metis_ids.specs.declared.actions.Action.{Action}
 use Rattle.metis_ids.specs.declared.actions.Action.TheVariants.{New, Delete, Bind, Unbind, Move}
 use Rattle.metis_ids.specs.declared.events.Event.{Event}
 use Rattle.metis_ids.specs.declared.events.Event.TheVariants.{At, End}
-use Rattle.metis_lines.specs.Terms.{AbstractPlan, IsSound, Supply, events, events_of, is_among, is_event, is_go, is_return, is_return_of, is_start, is_start_of, is_supplied, is_target, is_there, last, leaving, line_count, own_pairs, precedes, predecessors, same_event, station_at, stations, step_count}
+use Rattle.metis_lines.specs.Terms.{AbstractPlan, IsSound, Supply, events, events_of, is_among, is_event, is_go, is_return_of, is_start, is_start_of, is_supplied, is_target, is_there, last, leaving, line_count, own_pairs, precedes, predecessors, same_event, station_at, stations, step_count}
 use Rattle.metis_layers.specs.Terms.{place_of}
 use Rattle.metis_planner.proofs.Ending.{attained_layered}
 use Rattle.metis_planner.proofs.Forced.{providers, sound_for}
@@ -26,7 +26,7 @@ use Rattle.metis_rollout.proofs.Together.{has-news, touches_own}
 use Rattle.metis_rollout.proofs.Touching.{At as Made}
 use Rattle.metis_rollout.specs.Terms.{free_number, fresh_name, is_made, made_by, news_of, renumber, renumbered}
 use Rattle.metis_universe.proofs.Once.{free_needs}
-use Rattle.metis_universe.specs.Terms.{Attains, IsSteadfastRun, IsTable, Universe, demand_in, demand_of, has, pair_at, required_of, requires}
+use Rattle.metis_universe.specs.Terms.{Attains, IsSteadfastRun, IsTable, Universe, demand_of, has, required_of}
 use Rattle.metis_support.specs.Terms.{layer_number}
 
 -- ---- the lines whose instances the events make

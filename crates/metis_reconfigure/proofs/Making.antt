@@ -1,6 +1,5 @@
 -- What is made beside the old actions: a plan under new numbers, and the names of its targets.
 use Rattle.std.proofs.Common.{◌≡◌, ℕ, zero, suc, ◌+◌, ◌-◌, ◌<◌, ◌≤◌, ◌^◌, true, List, [], ◌∷◌, ◌++◌, Option, Some, None, length, map, refl, sym, ap, ◌∙◌, subst, arith, nat_eq}
-use Rattle.std.specs.Prelude.{IsSome}
 use Rattle.std.specs.List.{All, AllByRecursion, cons_option, flat_map, range_with_len, slice_index_or}
 use Rattle.std.specs.Map.{lookup}
 use Rattle.std.specs.Option.{option_map_or}
@@ -20,7 +19,7 @@ use Rattle.metis_rollout.specs.Terms.{all_but, free_number, fresh_name, named, n
 use Rattle.metis_universe.specs.Terms.{Config, IsOf, IsRun, IsSteadfastRun, IsTable, IsUniverse, Universe, empty, has, residual}
 use Rattle.metis_wishes.specs.Terms.{avoided, rebound, rebound_of}
 use Rattle.metis_wishes.specs.declared.wish.Wish.{Wish}
-use Rattle.metis_reconfigure.specs.Terms.{AreAims, AreLeaving, AreStaying, IsAnswerable, IsAnswered, IsGround, IsList, IsMadeBeside, Reconfiguration, fresh_actions, given, joined, left_by, left_to_plan, named_targets, rebinds_of, rebound_actions, rebound_in, reconfigured, targets}
+use Rattle.metis_reconfigure.specs.Terms.{AreAims, AreLeaving, AreStaying, IsAnswerable, IsAnswered, IsGround, IsList, IsMadeBeside, fresh_actions, given, joined, left_by, left_to_plan, named_targets, rebinds_of, rebound_actions, rebound_in, targets}
 use Rattle.metis_reconfigure.proofs.Aiming.{aims_planned}
 use Rattle.metis_reconfigure.proofs.Alone.{run_rest}
 use Rattle.metis_reconfigure.proofs.Keeping.{every_bind}

@@ -1,16 +1,14 @@
 -- Where nothing stands and nothing is wished, a reconfiguration is the plan for the goals.
-use Rattle.std.proofs.Common.{◌≡◌, ℕ, false, List, [], ◌∷◌, ◌++◌, refl, ap, ◌∙◌, append-nil}
+use Rattle.std.proofs.Common.{◌≡◌, ℕ, List, [], ◌∷◌, refl, ◌∙◌, append-nil}
 use Rattle.std.specs.List.{filter, filter_map}
 use Rattle.std.proofs.lemmas.Bool.{false≢true}
 use Rattle.metis_choice.specs.Terms.{ArePairsFor}
-use Rattle.metis_ids.specs.declared.actions.Action.{Action}
 use Rattle.metis_ids.specs.declared.goals.Goal.{Goal}
 use Rattle.metis_planner.specs.Terms.{IsPlanFor}
-use Rattle.metis_rollout.specs.Terms.{all_go, removal, renumbered, rollout}
+use Rattle.metis_rollout.specs.Terms.{all_go, removal, renumbered}
 use Rattle.metis_universe.specs.Terms.{AttainsGoals, IsSteadfastRun, IsTable, Universe, all_pairs, empty}
 use Rattle.metis_wishes.specs.Terms.{is_avoided}
-use Rattle.metis_wishes.specs.declared.wish.Wish.{Wish}
-use Rattle.metis_reconfigure.specs.Terms.{Reconfiguration, left_by, missing, pair_for, reconfigured, targets}
+use Rattle.metis_reconfigure.specs.Terms.{Reconfiguration, pair_for, reconfigured}
 use Rattle.metis_reconfigure.proofs.InOrder.{planned_in_order, same_numbers}
 use Rattle.metis_reconfigure.proofs.Rollouts.{is_rollout, pairs_for, planned_over_all}
 

@@ -4,7 +4,7 @@ use Rattle.std.specs.Prelude.{◌⊎◌, IsSome, fold, max, nat_lt, replicate}
 use Rattle.std.proofs.Math.Nat.{max-le}
 use Rattle.std.specs.List.{All, cons_option, count_by, filter, filter_map, find, position_or_len, range_with_len, slice_index_or}
 use Rattle.std.specs.Option.{is_some, option_map_or}
-use Rattle.std.proofs.lemmas.Bool.{and_parts, false_from_ne_true, false≢true, le-ltb, lt-ltb, ltb-false, ltb-true, or_right}
+use Rattle.std.proofs.lemmas.Bool.{and_parts, false_from_ne_true, false≢true, le-ltb, ltb-false, ltb-true, or_right}
 use Rattle.std.proofs.lemmas.List.{take_more}
 use Rattle.std.proofs.lemmas.List.Elements.{All-head, All-tail, filter_map-append}
 use Rattle.metis_completion.specs.Terms.{given_in}

@@ -1,10 +1,10 @@
 -- Who is unmet wants more providers than there are, and nothing new provides the port.
-use Rattle.std.proofs.Common.{◌≡◌, ℕ, ◌+◌, ◌-◌, ◌<◌, ◌≤◌, Bool, true, false, cond, not, ◌&&◌, List, [], ◌∷◌, Option, Some, None, length, nat_eq, nat_lt, refl, sym, ap, ◌∙◌, subst, arith, inl, inr, take}
-use Rattle.std.specs.Prelude.{IsFalse, IsSome, IsTrue, is_some}
-use Rattle.std.specs.List.{count_by, filter, find, range_with_len}
+use Rattle.std.proofs.Common.{◌≡◌, ℕ, ◌+◌, ◌-◌, ◌<◌, ◌≤◌, Bool, true, false, cond, not, ◌&&◌, List, [], ◌∷◌, Some, length, nat_eq, nat_lt, refl, sym, ap, ◌∙◌, arith, inl, inr, take}
+use Rattle.std.specs.Prelude.{is_some}
+use Rattle.std.specs.List.{count_by, find, range_with_len}
 use Rattle.std.specs.List.Sorted.{IsStrictlySortedBy}
 use Rattle.std.specs.Ordering.{nat_cmp}
-use Rattle.std.proofs.lemmas.Bool.{and_from, and_parts, both_ways, eqb-true, false_from_ne_true, lt-ltb, ltb-false, or_cases}
+use Rattle.std.proofs.lemmas.Bool.{and_from, and_parts, eqb-true, lt-ltb, or_cases}
 use Rattle.std.proofs.lemmas.List.Kept.{IsStrictlySortedBy-filter}
 use Rattle.metis_ids.proofs.Lists.{above_head, has-filter}
 use Rattle.metis_ids.proofs.Options.{IsSome_at}
@@ -12,7 +12,7 @@ use Rattle.metis_ids.specs.declared.actions.Action.{Action}
 use Rattle.metis_ids.specs.declared.goals.Goal.TheVariants.{Port}
 use Rattle.metis_rollout.proofs.Quiet.{keys-has}
 use Rattle.metis_rollout.specs.Terms.{members}
-use Rattle.metis_universe.specs.Terms.{Config, IsConfig, IsRun, IsUniverse, Universe, after_all, has, pair_of, provider_of, provides}
+use Rattle.metis_universe.specs.Terms.{Config, IsConfig, IsRun, IsUniverse, Universe, after_all, has, pair_of, provides}
 use Rattle.metis_wishes.specs.Terms.{is_avoided, rebound}
 use Rattle.metis_wishes.specs.declared.wish.Wish.{Wish}
 use Rattle.metis_reconfigure.specs.Terms.{IsNew, IsUnmet, NewOnesAct, given, is_unserved, lack, left_to_plan, rebound_in, targets_behind, wants}

@@ -1,9 +1,9 @@
 -- What stands and is used: what serves is given and taken, and a goal is missing where too few serve it.
-use Rattle.std.proofs.Common.{◌≡◌, ℕ, ◌+◌, ◌-◌, ◌<◌, ◌≤◌, Bool, true, false, cond, not, ◌&&◌, ◌||◌, List, [], ◌∷◌, ◌++◌, Option, Some, None, length, min, take, refl, sym, ap, ◌∙◌, subst, arith, nat_eq, nat_le, inl, inr, append_assoc}
-use Rattle.std.specs.Prelude.{IsFalse, IsSome, IsTrue}
-use Rattle.std.specs.List.{AllByRecursion, count_by, filter}
+use Rattle.std.proofs.Common.{◌≡◌, ℕ, ◌+◌, ◌-◌, Bool, true, false, cond, not, ◌&&◌, ◌||◌, List, [], ◌∷◌, ◌++◌, Some, length, min, take, refl, sym, ap, ◌∙◌, subst, arith, nat_eq, nat_le, append_assoc}
+use Rattle.std.specs.Prelude.{IsSome}
+use Rattle.std.specs.List.{count_by, filter}
 use Rattle.std.specs.Option.{option_map_or}
-use Rattle.std.proofs.lemmas.Bool.{and_parts, both_ways, false_from_ne_true, false≢true, leb-false, leb-true, or_right}
+use Rattle.std.proofs.lemmas.Bool.{and_parts, both_ways, false_from_ne_true, leb-false, leb-true, or_right}
 use Rattle.std.proofs.lemmas.List.{append-nil, length-take}
 use Rattle.std.proofs.lemmas.List.Sums.{length-filter}
 use Rattle.metis_ids.proofs.Lists.{has-filter, has_here, has_take}
@@ -29,7 +29,7 @@ use Rattle.metis_wishes.specs.declared.wish.Wish.{Wish}
 use Rattle.metis_reconfigure.specs.Terms.{Reconfiguration, at_border, given, gives, left_by, left_to_plan, missing, missing_behind, serving_among, settled, targets}
 use Rattle.metis_reconfigure.proofs.Given.{given_ones, is_given, is_settled}
 use Rattle.metis_reconfigure.proofs.Joined.{beside, c_config, d_pair, made_old, new, new_bound, new_steady, unused}
-use Rattle.metis_reconfigure.proofs.Lists.{count-append, count-push, filter_differs, passing_more}
+use Rattle.metis_reconfigure.proofs.Lists.{count-push, filter_differs, passing_more}
 
 -- ---- what is given
 

@@ -1,13 +1,11 @@
 -- The lines of a text of wishes.
-use Rattle.std.proofs.Common.{◌≡◌, ℕ, suc, ◌+◌, ◌-◌, ◌≤◌, Bool, true, false, List, [], ◌∷◌, ◌++◌, length, map, take, Ok, Err, Result, refl, ap, arith, length-append}
+use Rattle.std.proofs.Common.{◌≡◌, ℕ, suc, ◌+◌, ◌-◌, ◌≤◌, Bool, true, false, List, [], ◌∷◌, ◌++◌, length, map, Ok, Err, Result, refl, ap, arith, length-append}
 use Rattle.std.specs.Bool.{◌==◌, if◌then◌else◌}
 use Rattle.std.specs.Prelude.{◌&&◌, codes}
 use Rattle.std.specs.Str.{bytes_eq}
-use Rattle.std.proofs.lemmas.List.{length-take-le}
 use Rattle.metis_universe.specs.Terms.{Universe}
 use Rattle.metis_ids.proofs.Lists.{take_short}
 use Rattle.metis_tokens.specs.Terms.{and_then, end_from, last_piece, lines_from, made, text_from, whole_lines}
-use Rattle.metis_tokens.specs.declared.flaw.Flaw.{Flaw}
 use Rattle.metis_tokens.specs.declared.flaw.Flaw.TheVariants as flaw
 use Rattle.metis_wishes.specs.Terms.{wish_in, wish_lines, with_wish}
 use Rattle.metis_wishes.specs.declared.fault.WishFault.{WishFault}

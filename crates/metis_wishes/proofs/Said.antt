@@ -1,10 +1,9 @@
 -- What each line of a text of wishes says.
-use Rattle.std.proofs.Common.{◌≡◌, ◌⊎◌, ℕ, ◌+◌, ◌<◌, ◌^◌, Bool, true, false, cond, List, [], ◌∷◌, ◌++◌, Option, Some, None, length, Result, Ok, Err, decimal, refl, sym, ap, ◌∙◌, subst, inl, inr, append_assoc, append-nil, arith}
-use Rattle.std.specs.Prelude.{◌&&◌, ◌==◌, ◌||◌, codes, if◌then◌else◌, is_some, position, IsFalse, IsSome, IsTrue}
-use Rattle.std.specs.List.{All}
+use Rattle.std.proofs.Common.{◌≡◌, ℕ, ◌+◌, ◌<◌, ◌^◌, Bool, true, false, List, [], ◌∷◌, ◌++◌, Some, None, length, Result, Ok, Err, decimal, refl, sym, ap, ◌∙◌, subst, append_assoc, append-nil}
+use Rattle.std.specs.Prelude.{◌&&◌, ◌==◌, codes, if◌then◌else◌, is_some, position, IsSome}
 use Rattle.std.specs.Str.{bytes_eq}
-use Rattle.std.proofs.lemmas.Bool.{both_ways, false_from_ne_true, false≢true, or_parts}
-use Rattle.std.proofs.lemmas.List.Elements.{All-append, All-cons, All-head, All-nil, All-tail}
+use Rattle.std.proofs.lemmas.Bool.{false_from_ne_true, or_parts}
+use Rattle.std.proofs.lemmas.List.Elements.{All-append, All-cons, All-nil}
 use Rattle.std.proofs.lemmas.Slice.Eq.{bytes_eq-Decides}
 use Rattle.metis_tokens.specs.Terms.{and_then, end_from, found, last_piece, lines_from, made, named, number_in, pair_in, pieces, text_from, tokens, whole_lines}
 use Rattle.metis_tokens.specs.declared.flaw.Flaw.{Flaw}
@@ -12,7 +11,7 @@ use Rattle.metis_tokens.specs.declared.flaw.Flaw.TheVariants.{Form}
 use Rattle.metis_tokens.proofs.NumberTokens.{number_read}
 use Rattle.metis_universe.specs.Terms.{Universe, is_name, type_named}
 use Rattle.metis_wishes.specs.Reading.{unless_twice}
-use Rattle.metis_wishes.specs.Terms.{HaveOwnSubjects, IsSaidBy, is_about, is_same, kept_in, subject_of, wish_in, wish_lines, wishes_in, with_wish}
+use Rattle.metis_wishes.specs.Terms.{HaveOwnSubjects, IsSaidBy, is_about, is_same, subject_of, wish_in, wish_lines, wishes_in, with_wish}
 use Rattle.metis_wishes.specs.declared.fault.WishFault.{WishFault}
 use Rattle.metis_wishes.specs.declared.fault.WishFault.TheVariants.{Line, Twice}
 use Rattle.metis_wishes.specs.declared.wish.Wish.{Wish}

@@ -15,7 +15,7 @@ use Rattle.metis_tokens.specs.declared.flaw.Flaw.TheVariants as flaw
 use Rattle.metis_universe.specs.Terms.{Universe, type_named}
 use Rattle.metis_wishes.specs.Wishes.{is_about, is_same, subject_of}
 use Rattle.metis_wishes.specs.declared.fault.WishFault.{WishFault}
-use Rattle.metis_wishes.specs.declared.fault.WishFault.TheVariants.{Line, Short, Number, Name, Twice, NoMemory}
+use Rattle.metis_wishes.specs.declared.fault.WishFault.TheVariants.{Line, Short, Number, Name, Twice}
 use Rattle.metis_wishes.specs.declared.wish.Wish.{Wish}
 use Rattle.metis_wishes.specs.declared.wish.Wish.TheVariants.{Keep, KeepAll, Rebind, Retire, AvoidType, AvoidPair}
 

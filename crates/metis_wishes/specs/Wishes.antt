@@ -5,7 +5,7 @@
 --     named wishes      the instances of all these lines, in order
 --     keeps_all wishes      whether all that does not leave is to stay
 --     is_avoided u wishes p, avoided u wishes      whether the pair, or its type, is avoided;  these pairs, ascending
-use Rattle.std.specs.Prelude.{ℕ, ◌==◌, Bool, true, false, ◌||◌, List, Option, Some, None}
+use Rattle.std.specs.Prelude.{ℕ, ◌==◌, Bool, true, false, List, Option, Some, None}
 use Rattle.std.specs.List.{filter, filter_map, list_any}
 use Rattle.metis_universe.specs.Terms.{Universe, all_pairs, type_of}
 use Rattle.metis_wishes.specs.declared.wish.Subject.{Subject}

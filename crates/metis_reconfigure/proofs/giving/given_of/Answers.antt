@@ -1,6 +1,6 @@
 use Rattle.std.proofs.Common.{[], length, sym, ap, ◌∙◌, rules}
 use Rattle.std.proofs.lemmas.List.{length-replicate}
-use Rattle.metis_reconfigure.proofs.GivenRows.{given_all, given_begun, given_none, given_one}
+use Rattle.metis_reconfigure.proofs.GivenRows.{given_begun, given_none, given_one}
 use Rattle.metis_reconfigure.proofs.giving.given_of.Goals as goal
 
 pub loop-z-init : goal.loop-z-init

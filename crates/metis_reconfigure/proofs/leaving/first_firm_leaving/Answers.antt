@@ -1,4 +1,4 @@
-use Rattle.std.proofs.Common.{ℕ, Bool, ◌≡◌, ◌+◌, ◌&&◌, ◌||◌, drop, sym, ap, ◌∙◌}
+use Rattle.std.proofs.Common.{ℕ, Bool, ◌+◌, ◌&&◌, ◌||◌, drop, sym, ap, ◌∙◌}
 use Rattle.std.specs.List.{filter_map, find}
 use Rattle.std.specs.Option.{option_or}
 use Rattle.std.proofs.lemmas.List.{drop_all}

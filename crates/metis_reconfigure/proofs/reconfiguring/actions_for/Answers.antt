@@ -1,12 +1,11 @@
-use Rattle.std.proofs.Common.{rules, ◌≡◌, ◌+◌, ◌<◌, ◌≤◌, ◌^◌, ◌++◌, ℕ, List, [], length, arith, subst, sym, ap, ◌∙◌}
-use Rattle.std.specs.List.{All}
+use Rattle.std.proofs.Common.{rules, ◌≡◌, ◌+◌, ◌≤◌, ◌++◌, ℕ, List, length, arith, subst, sym, ap, ◌∙◌}
 use Rattle.metis_config.specs.Terms.{IsOver}
 use Rattle.metis_layers.proofs.Going.{after_all-append}
 use Rattle.metis_rollout.proofs.Over.{over_left}
 use Rattle.metis_rollout.proofs.Walking.{news_few}
 use Rattle.metis_rollout.specs.Terms.{all_but, free_number, news_of, removal}
 use Rattle.metis_universe.specs.Terms.{Config, IsRun, after_all, empty}
-use Rattle.metis_reconfigure.specs.Terms.{AreAimsOf, AreLeaving, AreStaying, IsGroundOf, left_by}
+use Rattle.metis_reconfigure.specs.Terms.{AreAimsOf, AreLeaving, AreStaying, left_by}
 use Rattle.metis_reconfigure.proofs.Aiming.{answerable_within, left_few}
 use Rattle.metis_reconfigure.proofs.Making.{acts_run, both_of, both_steady, is_list, list_told}
 use Rattle.metis_reconfigure.proofs.reconfiguring.actions_for.Goals as goal

@@ -1,4 +1,4 @@
-use Rattle.std.proofs.Common.{◌≡◌, ◌+◌, ◌<◌, ◌++◌, replicate, sym, ap, ◌∙◌, subst, not}
+use Rattle.std.proofs.Common.{◌+◌, ◌<◌, ◌++◌, replicate, sym, ap, ◌∙◌, subst, not}
 use Rattle.std.specs.List.{filter_map, find}
 use Rattle.metis_ids.proofs.Options.{none_from_is_some}
 use Rattle.metis_universe.specs.Terms.{port_count}

@@ -1,4 +1,4 @@
-use Rattle.std.proofs.Common.{◌≡◌, ◌∙◌, ap, sym, arith, codes, Bor, List, ℕ, [], Ok, length, map}
+use Rattle.std.proofs.Common.{◌≡◌, ◌∙◌, ap, sym, arith, codes, Bor, List, ℕ, Ok, length, map}
 use Rattle.std.proofs.lemmas.List.{length-map}
 use Rattle.metis_tokens.specs.Terms.{last_piece, pieces, text_from, whole_lines}
 use Rattle.metis_wishes.specs.Terms.{wish_lines}
