@@ -31,6 +31,8 @@ ENSURES = re.compile(r"(?s)ensures (?:\w+ )?\{(.*?)\}\s*(?=ensures|\Z)")
 # A group that binds variables, as `(u : Universe)`.
 BINDER = re.compile(r"^\([^():]+ : ")
 HEAD_OF_A_PREMISE = re.compile(r"[A-Za-z]\w*(?:\.\w+)*")
+# What a statement names before a premise.
+NAMED_BEFORE = re.compile(r"^(?:let \w+ = .*? in )+")
 # What only wraps a premise.
 WRAPPERS = ("IsTrue", "IsFalse", "IsSomeAnd", "IsNone", "IsSome", "All")
 
@@ -65,9 +67,10 @@ def parts_of(statement: str) -> Iterator[str]:
 
 def name_of(premise: str) -> str | None:
     """The definition that a premise is about; none if it is an equation, an order or a negation."""
-    if re.search(r"[≡≤<≢⊎×]|→", premise):
+    said = NAMED_BEFORE.sub("", premise)
+    if re.search(r"[≡≤<≢⊎×]|→", said):
         return None
-    names = HEAD_OF_A_PREMISE.findall(re.sub(r"λ [^.]*\.", "", premise))
+    names = HEAD_OF_A_PREMISE.findall(re.sub(r"λ [^.]*\.", "", said))
     wrapped = [name for name in names if name not in WRAPPERS]
     return wrapped[0] if wrapped else None
 
