@@ -1,6 +1,6 @@
 -- What is said of a reconfiguration from a plan's actions to goals, by wishes.
 --     KeepsTheKept r      in each order that keeps the waits, after the old actions, each old instance that stays is in its pair, and each old binding that is left at the end stands
---     NeverLacksEither r      in a guarded order that keeps the waits, at each moment after the old actions, all that they leave stands, or all that stands in the end does
+--     NeverLacksEither r      in an order that keeps the waits, in which nothing that the old actions leave is taken away before all that is new stands, at each moment after them, all that they leave stands, or all that stands in the end does
 --     GoesOnToTheEnd r      each order of the old actions that keeps their waits goes on to a guarded one of all actions
 --     IsSound r      what is promised of a reconfiguration that can be answered
 --     Reconfigures u goals old wishes lines      some actions attain the goals, and the lines are those of such a reconfiguration, in which each action names the actions of other instances that it waits for
@@ -22,7 +22,7 @@ use Rattle.metis_plan_commands.specs.Planned.{IsPrintable, TellsPlanned}
 use Rattle.metis_plan_commands.specs.declared.planned.Planned.TheVariants as planned
 use Rattle.metis_plan_commands.specs.declared.reconfigure.Attempt.{Attempt}
 use Rattle.metis_plan_commands.specs.declared.reconfigure.Attempt.TheVariants.{Planned, Barred}
-use Rattle.metis_reconfigure.specs.Terms.{IsAnswered, IsObstacle, IsTidied, LeavesAlone, Reconfiguration, after_old, at_border, at_end, before_removal, left_by, reconfigured, wished}
+use Rattle.metis_reconfigure.specs.Terms.{IsAnswered, IsObstacle, IsTidied, LeavesAlone, Reconfiguration, TakesOldLate, after_old, at_border, at_end, before_removal, left_by, reconfigured, wished}
 use Rattle.metis_reconfigure.specs.declared.answer.Obstacle.{Obstacle}
 use Rattle.metis_reconfigure.specs.declared.answer.Obstacle.TheVariants as obstacle
 use Rattle.metis_rollout.specs.Terms.{HasEach, IsGuardedAt, IsWithout, KeepsStanding, StandsIn, all_but}
@@ -41,11 +41,11 @@ module _ {u : Universe} {wishes : List Wish} {old : List Action} {goals : List G
       (ks : List ℕ) → IsKept (reconfigured r) ks → HasEach 0 (length old) ks
       → KeepsStanding (all_but r.staying) (left_by u old) (at_end r) (left_by u (picked (reconfigured r) ks))
 
-  -- the border of the guarded orders is the last action before the removal
+  -- all that is new stands once the last action before the removal is done
   abbrev pub NeverLacksEither : Type 0
   NeverLacksEither =
       (front rest : List ℕ) → IsKept (reconfigured r) (front ++ rest)
-      → IsGuardedAt (length old) (length (before_removal r)) (front ++ rest) → HasEach 0 (length old) front
+      → TakesOldLate r (front ++ rest) → HasEach 0 (length old) front
       → let c = left_by u (picked (reconfigured r) front) in StandsIn (left_by u old) c ⊎ StandsIn (at_end r) c
 
   abbrev pub GoesOnToTheEnd : Type 0
@@ -58,7 +58,8 @@ module _ {u : Universe} {wishes : List Wish} {old : List Action} {goals : List G
 -- stay, in their pairs and with the bindings that these require, and each for something that is wished or wanted. What is to stay by the
 -- wishes is there in its old pair, and what leaves by them is not. The actions behind the old ones do nothing to an instance of theirs that
 -- stays, but bind it where a wish says so, and end bindings that it does not require or that lead to what leaves. Carried out in any order
--- that keeps the waits, what stays never falls; and in a guarded one it never lacks both what was and what is to be.
+-- that keeps the waits, what stays never falls; and it never lacks both what was and what is to be where nothing of what was is taken away
+-- before all that is new stands.
 pub record IsSound {u : Universe} {wishes : List Wish} {old : List Action} {goals : List Goal} (r : Reconfiguration u wishes old goals) : Type 0 where
   pub steady : IsSteadfastRun u (reconfigured r)
   pub begins : reconfigured r ≡ old ++ after_old r

@@ -32,8 +32,9 @@ abbrev pub rollout_text : Universe → List Action → List Action → List (Lis
 rollout_text u old fresh = plan_text u (rollout_plan u old fresh)
 
 -- It is a steadfast run too, and ends in exactly what the fresh plan leaves, under its new numbers, and so with every one of the pairs. For
--- no pairs nothing is left. Carried out in an order that keeps the waits and is guarded, it never lacks both what was and what is to be.
--- The waits alone do not say so: each order of the old actions goes on to a guarded one, and to others.
+-- no pairs nothing is left. Carried out in an order that keeps the waits, and takes nothing away before all that is new stands, it never
+-- lacks both what was and what is to be. The waits alone do not say so: each order of the old actions goes on to a guarded one, and to
+-- others.
 pub record RollsOutPairs (u : Universe) (old : List Action) (g : List ℕ) (lines : List (List ℕ)) : Type 0 where
   pub attains : Attains u g
   pub fresh : Plan

@@ -6,15 +6,16 @@
 --     GoesWell r earlier s y      after old and these earlier actions the instance is a settled one, or one that old does not make, in a pair that provides the port and is not avoided
 --     is_kept r z      whether the instance is one of those that old leaves, and stays
 --     ActsBeside r a      the action is of an instance that old does not make, or a rebind
+--     TakesOldLate r ks      in the order nothing that old leaves is unbound, moved or deleted before all that is new stands
 --     after_old r, LeavesAlone r a      the actions after old;  the action does nothing to a kept instance but what a rebind says, or the end of a binding that is not to stay
-use Rattle.std.specs.Prelude.{◌≡◌, ◌⊎◌, ℕ, ◌==◌, Bool, false, ◌&&◌, ◌||◌, List, ◌++◌, Some, IsFalse, IsTrue, slice_get}
+use Rattle.std.specs.Prelude.{◌≡◌, ◌⊎◌, ℕ, ◌==◌, Bool, false, ◌&&◌, ◌||◌, List, ◌++◌, Some, IsFalse, IsTrue, slice_get, length}
 use Rattle.std.specs.List.{list_any}
 use Rattle.metis_ids.specs.declared.actions.Action.{Action}
 use Rattle.metis_ids.specs.declared.actions.Action.TheVariants.{New, Delete, Bind, Unbind, Move}
 use Rattle.metis_ids.specs.declared.goals.Goal.{Goal}
 use Rattle.metis_universe.specs.Terms.{Config, IsSteadfastRun, Universe, has, is_bound, pair_of, provides}
 use Rattle.metis_completion.specs.Terms.{takes_given}
-use Rattle.metis_rollout.specs.Terms.{all_but, fresh_name, is_idle, is_made, members, removal, renumbered, scaffold_name}
+use Rattle.metis_rollout.specs.Terms.{TakesLate, all_but, fresh_name, is_idle, is_made, members, removal, renumbered, scaffold_name}
 use Rattle.metis_wishes.specs.Terms.{is_avoided, rebound}
 use Rattle.metis_wishes.specs.declared.wish.Wish.{Wish}
 use Rattle.metis_reconfigure.specs.Answerable.{IsAnswerable}
@@ -88,3 +89,8 @@ LeavesAlone r (Bind s z y) = IsTrue (is_kept r z) → IsTrue (binds_at (rebinds_
 LeavesAlone {u} {wishes} r (Unbind s z y) = IsTrue (is_kept r z)
     → IsTrue (is_idle u (at_border r) (s, z, y)) ⊎ (IsTrue (has (rebound wishes) z) × IsTrue (has r.leaving y))
 LeavesAlone r (Move z p q) = IsFalse (is_kept r z)
+
+-- ---- what is taken away late
+
+abbrev pub TakesOldLate : {u : Universe} → {wishes : List Wish} → {old : List Action} → {goals : List Goal} → Reconfiguration u wishes old goals → List ℕ → Type 0
+TakesOldLate {u} {wishes} {old} r ks = TakesLate (left_by u old) (reconfigured r) (length old) (length (before_removal r)) ks

@@ -2,7 +2,7 @@
 pub use Rattle.metis_reconfigure.specs.Aims.{AreAims, AreAimsOf, IsBar, IsFound, IsGround, IsGroundOf, IsList, IsMadeBeside}
 pub use Rattle.metis_reconfigure.specs.Answerable.{AreMet, IsAnswerable, is_absent, is_firm, is_unavoidable}
 pub use Rattle.metis_reconfigure.specs.Answers.{AreThere, AreWithin, IsLeastRoot, IsObstacle, IsReconfigured, IsTold, absent, firm_leaving, first_unavoidable, passing}
-pub use Rattle.metis_reconfigure.specs.Kept.{ActsBeside, GoesWell, IsAnswered, IsJoined, LeavesAlone, after_old, at_border, at_end, binds_at, is_bind, is_kept, rebinds_in, taken_away}
+pub use Rattle.metis_reconfigure.specs.Kept.{ActsBeside, GoesWell, IsAnswered, IsJoined, LeavesAlone, TakesOldLate, after_old, at_border, at_end, binds_at, is_bind, is_kept, rebinds_in, taken_away}
 pub use Rattle.metis_reconfigure.specs.Missing.{lack, lacking, missing, missing_behind, pair_for, providers_short, rebound_in, serving_among, short, targets, targets_behind, wanted, wants}
 pub use Rattle.metis_reconfigure.specs.NewOnes.{IsNew, LeanRightly, NewOnesAct}
 pub use Rattle.metis_reconfigure.specs.Reached.{AreReached, Edge, IsClosed, IsFollowed, IsReached, IsUnderWay, has_edge, next, start}

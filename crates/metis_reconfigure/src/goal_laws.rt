@@ -8,19 +8,19 @@ ghost use Rattle.metis_ids.specs.declared.goals.Goal.{Goal};
 ghost use Rattle.metis_layers.specs.Terms.{attained_pairs, instances_of};
 ghost use Rattle.metis_planner.specs.Terms.{IsLean, IsPlanFor};
 ghost use Rattle.metis_universe.specs.Terms.{AttainsGoals, Config, HoldsGoals, IsConfig, IsKept, IsRun, IsSteadfastRun, IsTable, IsUniverse, Universe, after_all, empty, has, is_bound, pair_of, picked, port_count, requires, serves};
-ghost use Rattle.metis_rollout.specs.Terms.{HasEach, IsGuardedAt, members, rollout};
+ghost use Rattle.metis_rollout.specs.Terms.{HasEach, members, rollout};
 ghost use Rattle.metis_wishes.specs.Terms.{avoided, is_avoided, kept, named, rebound};
 ghost use Rattle.metis_wishes.specs.declared.wish.Wish.{Wish};
-ghost use Rattle.metis_reconfigure.specs.Terms.{AreLeaving, AreMet, IsAnswerable, IsAnswered, IsNew, NewOnesAct, Reconfiguration, at_end, before_removal, fresh_actions, is_root, is_unavoidable, left_by, left_to_plan, missing, pair_for, rebinds_in, rebound_in, reconfigured, targets};
+ghost use Rattle.metis_reconfigure.specs.Terms.{AreLeaving, AreMet, IsAnswerable, IsAnswered, IsNew, NewOnesAct, Reconfiguration, TakesOldLate, at_end, before_removal, fresh_actions, is_root, is_unavoidable, left_by, left_to_plan, missing, pair_for, rebinds_in, rebound_in, reconfigured, targets};
 
-/// In the end the goals are held. In a guarded order that keeps the waits, at each moment after the old actions any goals that their end
-/// holds are held, or these are.
+/// In the end the goals are held. In an order that keeps the waits, in which nothing that the old actions leave is unbound, moved or
+/// deleted before all that is new stands, at each moment after the old actions any goals that their end holds are held, or these are.
 pub fn the_goals_are_held_in_the_end()
     ensures held { (u : Universe) (wishes : List Wish) (old : List Action) (goals : List Goal) (r : Reconfiguration u wishes old goals)
         → IsUniverse u → IsAnswered u wishes old goals r → HoldsGoals u (at_end r) goals }
     ensures throughout { (u : Universe) (wishes : List Wish) (old : List Action) (goals : List Goal) (r : Reconfiguration u wishes old goals)
         (front rest : List ℕ) (before : List Goal) → IsUniverse u → IsAnswered u wishes old goals r → IsKept (reconfigured r) (front ++ rest)
-        → IsGuardedAt (length old) (length (before_removal r)) (front ++ rest) → HasEach 0 (length old) front
+        → TakesOldLate r (front ++ rest) → HasEach 0 (length old) front
         → HoldsGoals u (left_by u old) before
         → let c = left_by u (picked (reconfigured r) front) in HoldsGoals u c before ⊎ HoldsGoals u c goals }
 {}

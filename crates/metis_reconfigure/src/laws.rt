@@ -9,7 +9,7 @@ ghost use Rattle.metis_completion.specs.Terms.{AreGiven};
 ghost use Rattle.metis_rollout.specs.Terms.{AreFree, HasEach, IsBeside, IsGuardedAt, IsWithout, KeepsStanding, MayGo, StandsIn, all_but, is_idle, scaffold_name};
 ghost use Rattle.metis_wishes.specs.Terms.{is_avoided, rebound};
 ghost use Rattle.metis_wishes.specs.declared.wish.Wish.{Wish};
-ghost use Rattle.metis_reconfigure.specs.Terms.{ActsBeside, AreLeaving, GoesWell, IsAnswered, IsJoined, IsTidied, LeavesAlone, Reconfiguration, after_old, at_border, at_end, before_removal, fresh_actions, fresh_in, given, is_kept, left_by, rebinds_in, reconfigured, wished};
+ghost use Rattle.metis_reconfigure.specs.Terms.{ActsBeside, AreLeaving, GoesWell, IsAnswered, IsJoined, IsTidied, LeavesAlone, Reconfiguration, TakesOldLate, after_old, at_border, at_end, before_removal, fresh_actions, fresh_in, given, is_kept, left_by, rebinds_in, reconfigured, wished};
 
 /// The given instances of each port ascend, stand in pairs that provide it, do not leave, and are in no avoided pair.
 pub fn what_is_given_stands_and_is_settled()
@@ -132,16 +132,17 @@ pub fn the_kept_never_fall()
         → KeepsStanding (all_but r.staying) (left_by u old) (at_end r) (left_by u (picked (reconfigured r) ks)) }
 {}
 
-/// In a guarded order that keeps the waits, at each moment after the old actions all that they leave stands, or all that stands in the
-/// end does. So the goals that the old end holds are held, or those that the new end holds.
+/// In an order that keeps the waits let nothing that the old actions leave be unbound, moved or deleted before all that is new stands.
+/// Then, at each moment after the old actions, all that they leave stands, or all that stands in the end does. So the goals that the old
+/// end holds are held, or those that the new end holds.
 pub fn guarded_reconfiguration_never_lacks()
     ensures configurations { (u : Universe) (wishes : List Wish) (old : List Action) (goals : List Goal) (r : Reconfiguration u wishes old goals)
         (front rest : List ℕ) → IsUniverse u → IsAnswered u wishes old goals r → IsKept (reconfigured r) (front ++ rest)
-        → IsGuardedAt (length old) (length (before_removal r)) (front ++ rest) → HasEach 0 (length old) front
+        → TakesOldLate r (front ++ rest) → HasEach 0 (length old) front
         → let c = left_by u (picked (reconfigured r) front) in StandsIn (left_by u old) c ⊎ StandsIn (at_end r) c }
     ensures goals { (u : Universe) (wishes : List Wish) (old : List Action) (goals : List Goal) (r : Reconfiguration u wishes old goals)
         (front rest g h : List ℕ) → IsUniverse u → IsAnswered u wishes old goals r → IsKept (reconfigured r) (front ++ rest)
-        → IsGuardedAt (length old) (length (before_removal r)) (front ++ rest) → HasEach 0 (length old) front
+        → TakesOldLate r (front ++ rest) → HasEach 0 (length old) front
         → Holds (left_by u old) g → Holds (at_end r) h
         → let c = left_by u (picked (reconfigured r) front) in Holds c g ⊎ Holds c h }
 {}

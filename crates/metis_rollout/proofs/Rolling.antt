@@ -9,11 +9,11 @@ use Rattle.metis_ids.specs.declared.actions.Action.TheVariants.{New, Delete, Bin
 use Rattle.metis_ids.proofs.Options.{IsSome_at}
 use Rattle.metis_universe.specs.Terms.{Config, Holds, IsKept, IsSteadfastRun, IsUniverse, Universe, after_all, empty, has, initial_of, is_bound, pair_of, picked}
 use Rattle.metis_layers.proofs.Going.{GoesOn, at}
-use Rattle.metis_rollout.specs.Terms.{HasEach, IsBeside, IsGuarded, IsGuardedAt, Spares, StandsIn, all_go, border, fresh_name, is_made, removal, renumber, renumbered, rollout, scaffold_name}
+use Rattle.metis_rollout.specs.Terms.{HasEach, IsBeside, Spares, StandsIn, TakesLate, all_go, border, fresh_name, is_made, removal, renumber, renumbered, rollout, scaffold_name}
 use Rattle.metis_rollout.proofs.Among.{may_all}
 use Rattle.metis_rollout.proofs.Fixed.{FixesBinding, FixesPair}
 use Rattle.metis_rollout.proofs.Going.{going_from_steady}
-use Rattle.metis_rollout.proofs.Guarding.{LeavesEnd, end_stands, never_lacks, never_lacks_goals, old_stands}
+use Rattle.metis_rollout.proofs.Guarding.{LeavesEnd, LeavesOld, end_stands, leaves_old, never_lacks, never_lacks_goals, old_stands}
 use Rattle.metis_rollout.proofs.Removal.{left_config, none_bound, none_made, rest_apart}
 use Rattle.metis_rollout.proofs.Sparing.{cut_apart, gone_apart, pair_apart, tied_apart, untied_apart}
 use Rattle.metis_rollout.proofs.Together.{fresh_goes, fresh_unused, split2, together, touches_made, touches_own}
@@ -107,6 +107,11 @@ module _ (u : Universe) (k : IsUniverse u) (old fresh : List Action) (s : IsStea
         );
   }
 
+  -- ---- and takes what old leaves alone but where it takes it away
+
+  old_left : LeavesOld u old rest
+  old_left = leaves_old u k all_go (scaffold_name old fresh) old s (may_all u (at u old)) (scaffold_free old fresh) old goes (λ z made. made)
+
   -- ---- in an order that keeps the waits
 
   size : length old + length new ≡ border old fresh
@@ -114,17 +119,17 @@ module _ (u : Universe) (k : IsUniverse u) (old fresh : List Action) (s : IsStea
 
   module _ (ks : List ℕ) (in_time : IsKept (rollout u old fresh) ks) where
     pub old_stand : HasEach 0 (length old) ks → ((m : ℕ) → has ks m ≡ true → m ≤ border old fresh) → StandsIn (at u old) (at u (picked (rollout u old fresh) ks))
-    old_stand each few = old_stands u old new beside_old rest end_left ks in_time each (λ m there. let low = few m there in omega (arith, size))
+    old_stand each few = old_stands u old new beside_old rest end_left ks in_time old_left each (λ m a there high. absurd (let low = few m there in omega (arith, size, high)))
 
     pub fresh_stand : HasEach 0 (border old fresh) ks → StandsIn (at u new) (at u (picked (rollout u old fresh) ks))
     fresh_stand each = subst (λ c. StandsIn c (at u (picked (rollout u old fresh) ks))) (whole u k old fresh s t).1 (end_stands u old new beside_old rest end_left ks in_time (λ m low high. each m low (omega (arith, size))))
 
-  module _ (front later : List ℕ) (in_time : IsKept (rollout u old fresh) (front ++ later)) (guarded : IsGuarded old fresh (front ++ later)) (each : HasEach 0 (length old) front) where
+  module _ (front later : List ℕ) (in_time : IsKept (rollout u old fresh) (front ++ later)) (late : TakesLate (at u old) (rollout u old fresh) (length old) (border old fresh) (front ++ later)) (each : HasEach 0 (length old) front) where
     abbrev c : Config
     c = at u (picked (rollout u old fresh) front)
 
     pub never_lack : StandsIn (at u old) c ⊎ StandsIn (at u new) c
-    never_lack = elim (never_lacks u old new rest beside_old end_left front later in_time (subst (λ n. IsGuardedAt (length old) n (front ++ later)) (sym size) guarded) each) [
+    never_lack = elim (never_lacks u old new rest beside_old end_left front later old_left in_time (subst (λ n. TakesLate (at u old) (rollout u old fresh) (length old) n (front ++ later)) (sym size) late) each) [
       | inl stands ↦ inl stands
       | inr stands ↦ inr (subst (λ d. StandsIn d c) (whole u k old fresh s t).1 stands)
     ]
@@ -132,4 +137,4 @@ module _ (u : Universe) (k : IsUniverse u) (old fresh : List Action) (s : IsStea
     pub never_lack_goals : (g h : List ℕ) → Holds (at u old) g → Holds (at u fresh) h → Holds c g ⊎ Holds c h
     never_lack_goals g h held wanted =
         let all = replaced u old fresh k s t in
-        never_lacks_goals u old new rest beside_old end_left front later in_time (subst (λ n. IsGuardedAt (length old) n (front ++ later)) (sym size) guarded) each (going_from_steady u (rollout u old fresh) all.0) g h held (all.2 h wanted)
+        never_lacks_goals u old new rest beside_old end_left front later old_left in_time (subst (λ n. TakesLate (at u old) (rollout u old fresh) (length old) n (front ++ later)) (sym size) late) each (going_from_steady u (rollout u old fresh) all.0) g h held (all.2 h wanted)

@@ -3,16 +3,19 @@
 --     HasEach from to ks      each number above `from` and up to `to` is one of ks
 --     IsGuardedAt from last ks      no number past `last` comes before one above `from` and up to `last`
 --     IsGuarded old fresh ks      no action of the removal comes before the last action of the renumbered fresh list
+--     takes_from c a      whether the action unbinds, moves or deletes something that stands in c
+--     TakesLate c all from last ks      no number past `last`, of one of all actions that takes something from c, comes before one above `from` and up to `last`
 --     StandsIn d c      all that stands in d stands in c: each instance in its pair, with its bindings
---     NeverLacks u old fresh      in each guarded order that keeps the waits, at each moment after the old actions, all that the old list leaves stands, or all that the fresh one leaves does
+--     NeverLacks u old fresh      in each order that keeps the waits and takes late from what the old list leaves, at each moment after the old actions, all that it leaves stands, or all that the fresh one leaves does
 --     GoesOnGuarded u old fresh      each order of the old actions that keeps their waits goes on to a guarded one of all actions
 --     Spares c a, IsBeside u old new      the action moves, deletes and ends nothing that stands in c;  the new actions do so with what the old ones leave
 --     KeepsStanding goes c e d      what stays of c stands in d, with its bindings that e has too
-use Rattle.std.specs.Prelude.{ℕ, ◌≡◌, ◌⊎◌, ◌+◌, ◌<◌, ◌≤◌, Bool, List, ◌∷◌, ◌++◌, length, IsTrue, IsFalse, Some, None, ⊤}
+use Rattle.std.specs.Prelude.{ℕ, ◌≡◌, ◌⊎◌, ◌+◌, ◌<◌, ◌≤◌, Bool, false, List, ◌∷◌, ◌++◌, length, IsTrue, IsFalse, Some, None, ⊤}
 use Rattle.std.specs.List.{All}
+use Rattle.std.specs.Option.{is_some}
 use Rattle.metis_ids.specs.declared.actions.Action.{Action}
 use Rattle.metis_ids.specs.declared.actions.Action.TheVariants.{New, Delete, Bind, Unbind, Move}
-use Rattle.metis_universe.specs.Terms.{Config, IsKept, IsSteadfastRun, Universe, after_all, empty, has, is_bound, is_complete, pair_of, picked}
+use Rattle.metis_universe.specs.Terms.{Config, IsKept, IsSteadfastRun, Universe, action_at, after_all, empty, has, is_bound, is_complete, pair_of, picked}
 use Rattle.metis_rollout.specs.Rollout.{renumbered, rollout}
 
 abbrev pub border : List Action → List Action → ℕ
@@ -28,13 +31,27 @@ IsGuardedAt from last ks = (front rest : List ℕ) (k : ℕ) → ks ≡ front ++
 abbrev pub IsGuarded : List Action → List Action → List ℕ → Type 0
 IsGuarded old fresh ks = IsGuardedAt (length old) (border old fresh) ks
 
+abbrev pub takes_from : Config → Action → Bool
+takes_from c (New z t) = false
+takes_from c (Delete z) = is_some (pair_of c z)
+takes_from c (Bind r z y) = false
+takes_from c (Unbind r z y) = is_bound c r z y
+takes_from c (Move z p q) = is_some (pair_of c z)
+
+-- whatever stands before an action that takes something from c has all fresh ones
+abbrev pub TakesLate : Config → List Action → ℕ → ℕ → List ℕ → Type 0
+TakesLate c all from last ks =
+    (front rest : List ℕ) (k : ℕ) (a : Action) → ks ≡ front ++ k ∷ rest → last < k → action_at all k ≡ Some a → IsTrue (takes_from c a)
+    → HasEach from last front
+
 pub record StandsIn (d c : Config) : Type 0 where
   pub pairs : (z p : ℕ) → pair_of d z ≡ Some p → pair_of c z ≡ Some p
   pub bindings : (r z y : ℕ) → IsTrue (is_bound d r z y) → IsTrue (is_bound c r z y)
 
 abbrev pub NeverLacks : Universe → List Action → List Action → Type 0
 NeverLacks u old fresh =
-    (front rest : List ℕ) → IsKept (rollout u old fresh) (front ++ rest) → IsGuarded old fresh (front ++ rest) → HasEach 0 (length old) front
+    (front rest : List ℕ) → IsKept (rollout u old fresh) (front ++ rest)
+    → TakesLate (after_all u empty old) (rollout u old fresh) (length old) (border old fresh) (front ++ rest) → HasEach 0 (length old) front
     → let c = after_all u empty (picked (rollout u old fresh) front) in
     StandsIn (after_all u empty old) c ⊎ StandsIn (after_all u empty (renumbered old fresh)) c
 

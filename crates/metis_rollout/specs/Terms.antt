@@ -1,5 +1,5 @@
 -- What clauses and proofs cite of this crate, by one module.
-pub use Rattle.metis_rollout.specs.Guarded.{GoesOnGuarded, HasEach, IsBeside, IsGuarded, IsGuardedAt, KeepsStanding, NeverLacks, Spares, StandsIn, border}
+pub use Rattle.metis_rollout.specs.Guarded.{GoesOnGuarded, HasEach, IsBeside, IsGuarded, IsGuardedAt, KeepsStanding, NeverLacks, Spares, StandsIn, TakesLate, border, takes_from}
 pub use Rattle.metis_rollout.specs.Holders.{AreFew, IsScaffoldIn, TellsTruly, ends_among, first_among, holder_at}
 pub use Rattle.metis_rollout.specs.Removal.{AreFree, CanTake, GoesApart, IsNamed, IsWithout, MayGo, Removing, taking}
 pub use Rattle.metis_rollout.specs.Rolled.{IsRollout}

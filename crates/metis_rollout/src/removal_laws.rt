@@ -3,7 +3,7 @@ ghost use Rattle.std.specs.Prelude.{◌≡◌, ◌⊎◌, ◌++◌, ◌+◌, ◌
 ghost use Rattle.std.specs.List.{All};
 ghost use Rattle.metis_ids.specs.declared.actions.Action.{Action};
 ghost use Rattle.metis_universe.specs.Terms.{Config, Holds, IsKept, IsOf, IsRun, IsSteadfastRun, IsTable, IsUniverse, Universe, after_all, empty, is_complete, picked};
-ghost use Rattle.metis_rollout.specs.Terms.{CanTake, GoesApart, HasEach, IsBeside, IsGuardedAt, IsWithout, KeepsStanding, Removing, StandsIn, all_go, among, removal, taking};
+ghost use Rattle.metis_rollout.specs.Terms.{CanTake, GoesApart, HasEach, IsBeside, IsGuardedAt, IsWithout, KeepsStanding, Removing, StandsIn, TakesLate, all_go, among, removal, taking};
 
 /// Where what stays is served by what stays, all that goes is removed by a list that goes on steadily.
 pub fn removal_goes_on()
@@ -48,19 +48,22 @@ pub fn what_stays_stands_throughout()
         → KeepsStanding goes (after_all u empty old) (after_all u empty whole) (after_all u empty (picked whole ks)) }
 {}
 
-/// In a guarded order that keeps the waits, at each moment after the old actions all that they leave stands, or all that is left at
-/// the end does. So the goals that the old end holds are held, or those that the new end holds.
+/// In an order that keeps the waits let nothing that the old actions leave be unbound, moved or deleted before all that is new stands.
+/// Then, at each moment after the old actions, all that they leave stands, or all that is left at the end does. So the goals that the old
+/// end holds are held, or those that the new end holds.
 pub fn guarded_removal_never_lacks()
     ensures configurations { (u : Universe) (goes : ℕ → Bool) (name : ℕ → ℕ) (old new : List Action) (front rest : List ℕ)
         → IsUniverse u → IsBeside u old new → CanTake u goes name (old ++ new)
         → let whole = old ++ (new ++ taking u goes name (old ++ new)) in
-        IsKept whole (front ++ rest) → IsGuardedAt (length old) (length old + length new) (front ++ rest) → HasEach 0 (length old) front
+        IsKept whole (front ++ rest) → TakesLate (after_all u empty old) whole (length old) (length old + length new) (front ++ rest)
+        → HasEach 0 (length old) front
         → let c = after_all u empty (picked whole front) in
         StandsIn (after_all u empty old) c ⊎ StandsIn (after_all u empty whole) c }
     ensures goals { (u : Universe) (goes : ℕ → Bool) (name : ℕ → ℕ) (old new : List Action) (front rest g h : List ℕ)
         → IsUniverse u → IsBeside u old new → CanTake u goes name (old ++ new)
         → let whole = old ++ (new ++ taking u goes name (old ++ new)) in
-        IsKept whole (front ++ rest) → IsGuardedAt (length old) (length old + length new) (front ++ rest) → HasEach 0 (length old) front
+        IsKept whole (front ++ rest) → TakesLate (after_all u empty old) whole (length old) (length old + length new) (front ++ rest)
+        → HasEach 0 (length old) front
         → Holds (after_all u empty old) g → Holds (after_all u empty whole) h
         → let c = after_all u empty (picked whole front) in Holds c g ⊎ Holds c h }
 {}
@@ -72,6 +75,11 @@ pub fn guarded_removal_goes_on()
         → let whole = old ++ (new ++ rest) in
         (more : List ℕ) × IsKept whole (ks ++ more) × IsTrue (is_complete whole (ks ++ more))
         × IsGuardedAt 0 (length old + length new) (ks ++ more) }
+{}
+
+/// In an order in which none of the rest comes before each new action, nothing of the rest takes anything away before that.
+pub fn guarded_orders_take_late()
+    ensures { (c : Config) (all : List Action) (from last : ℕ) (ks : List ℕ) → IsGuardedAt from last ks → TakesLate c all from last ks }
 {}
 
 /// Where what goes stands apart from what stays, and each binding of what stays is required, its removal is that of what goes alone,
