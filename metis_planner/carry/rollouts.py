@@ -1,7 +1,7 @@
 """Where a rollout stands in a list of actions, and so what must not begin before what.
 
 A rollout is the old plan's actions, the fresh ones, and the removal of what the old ones leave. The waits alone would
-let the removal come before the fresh ones. Where no action of the removal comes before the last fresh one, what stood
+let the removal come before the fresh ones. Where nothing of what stood is taken away before the last fresh one, what stood
 or what is to stand is whole at each moment: the law `guarded_rollout_never_lacks`. A reconfiguration is the same, but for
 what it keeps: the fresh ones are bound to that, and it may be bound to them.
 """
