@@ -1,13 +1,15 @@
 //! Laws of what a run says: of the same inputs at most one answer is true, which is a list of lines with a status.
-ghost use Rattle.std.specs.Prelude.{ℕ, List};
+ghost use Rattle.std.specs.Prelude.{◌≡◌, ℕ, List};
 ghost use Rattle.metis_commands.specs.Terms.{Audited, Awaited, Confirms, Controlled, Crewed, Judged, Placed, Printed, Replayed, Simulated, Waved, WhyAnswer};
 ghost use Rattle.metis_ids.specs.declared.actions.Action.{Action};
 ghost use Rattle.metis_ids.specs.declared.goals.Goal.{Goal};
 ghost use Rattle.metis_ids.specs.Terms.{Plan};
 ghost use Rattle.metis_inputs.specs.Terms.{script_of};
+ghost use Rattle.metis_outside.specs.Terms.{Appends, Written};
+ghost use Rattle.metis_output.specs.declared.status.Status.{Status};
 ghost use Rattle.metis_place.specs.Terms.{HostLists};
 ghost use Rattle.metis_plan_commands.specs.Terms.{Loaded, PlanAnswer, Reconfigured, RolledOut};
-ghost use Rattle.metis_top.specs.Terms.{Says, over};
+ghost use Rattle.metis_top.specs.Terms.{Says, Tells, over};
 ghost use Rattle.metis_universe.specs.Terms.{Universe};
 ghost use Rattle.metis_why.specs.declared.reason.Line.{Line};
 ghost use Rattle.metis_wishes.specs.declared.wish.Wish.{Wish};
@@ -105,4 +107,12 @@ pub fn a_confirmation_has_one_answer()
 /// answers are both true of what a command reads, and a fault of words or files has its one line.
 pub fn each_script_has_one_answer()
     ensures { (file : List ℕ → List ℕ) (words : List (List ℕ)) → HasAtMostOneAnswer (Says (over file (script_of words))) }
+{}
+
+/// Two runs with the same words, over files with the same contents, that neither a failed read or write nor want of memory disturbed,
+/// print the same lines and end with the same status.
+pub fn the_same_files_give_the_same_answer()
+    ensures { (file : List ℕ → List ℕ) (words : List (List ℕ)) (old new before after : Written) (status other : Status)
+        → Tells file (script_of words) old new status → Tells file (script_of words) before after other
+        → (lines : List (List ℕ)) × Appends old new lines × Appends before after lines × (status ≡ other) }
 {}

@@ -17,5 +17,5 @@ pub use laws::{
     a_print_has_one_answer, a_reconfiguration_has_one_answer, a_refutation_has_one_answer,
     a_replay_has_one_answer, a_rollout_has_one_answer, a_session_has_one_answer,
     an_audit_has_one_answer, an_explanation_has_one_answer, each_script_has_one_answer,
-    waits_have_one_answer, waves_have_one_answer,
+    the_same_files_give_the_same_answer, waits_have_one_answer, waves_have_one_answer,
 };
