@@ -11,6 +11,7 @@ SHARED = (
     "__main__",
     "apt_root",
     "browsers",
+    "docker_engine",
     "page_browsing",
     "page_cases",
     "systemd_cases",

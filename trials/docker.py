@@ -11,23 +11,19 @@ with. `down` leaves no container, network or volume. --plant NAME puts a fault b
 """
 
 import argparse
-import json
 import os
 import pathlib
 import random
-import shutil
 import signal
 import subprocess
 import sys
 import time
 from collections.abc import Callable
 
+from trials.docker_engine import Engine, Trial, changed
 from trials.trial import TOP, Failed, expect
 
 SEED, KILLS, ROUNDS = 11, 25, 3
-NAMESPACE = "metis-docker"
-SPACE = f"/run/netns/{NAMESPACE}"
-PACKAGES = "ca-certificates,curl,procps,python3,redis-server,postgresql,postgresql-client,python3-psycopg2,gosu"
 SKELETON = TOP / "metis_planner/carry/skeletons/compose.toml"
 # By name a text of the commands, and what stands in its place where the fault is put back.
 PLANTS = {
@@ -40,43 +36,6 @@ PLANTS = {
     "claim": ('  case $METIS_TYPE in *@next) ;; *) take ;; esac\n', ""),
     "pull": ("compose pull --quiet --policy missing --ignore-buildable", "compose pull --quiet"),
 }
-PG = """FROM base:12
-COPY entry.sh /entry.sh
-ENTRYPOINT ["sh", "/entry.sh"]
-STOPSIGNAL SIGINT
-"""
-PG_ENTRY = """set -eu
-data=/var/lib/postgresql/data bin=/usr/lib/postgresql/15/bin
-mkdir -p $data /var/run/postgresql
-chown postgres:postgres $data /var/run/postgresql
-chmod 700 $data
-if [ ! -s $data/PG_VERSION ]; then
-  gosu postgres $bin/initdb -D $data -A trust >/dev/null
-  echo 'host all all all trust' >>$data/pg_hba.conf
-fi
-exec gosu postgres $bin/postgres -D $data -c listen_addresses='*' -c fsync=off
-"""
-# One image for all that a shop runs: what it needs has to be there when it starts.
-APP = """FROM base:12
-COPY app.sh /app.sh
-ENTRYPOINT ["sh", "/app.sh"]
-STOPSIGNAL SIGKILL
-"""
-APP_SH = """set -eu
-ask() { psql -h db -U postgres -Atqc "$1"; }
-case $1 in
-migrate)
-  if [ -n "${FAIL-}" ]; then exit 3; fi
-  ask 'create table if not exists migrated (at timestamp default now())'
-  ask 'insert into migrated default values'
-  ;;
-web)
-  test "$(ask 'select count(*) from migrated')" -gt 0
-  exec sleep 100000
-  ;;
-once) exit 0 ;;
-esac
-"""
 
 
 def project(**more: object) -> dict[str, object]:
@@ -103,123 +62,6 @@ def apart() -> dict[str, object]:
         side={"image": "trial-app:1", "entrypoint": ["sleep", "100000"], "network_mode": "service:built"},
     )
     return found
-
-
-class Engine:
-    """A Docker of its own."""
-
-    def __init__(self, folder: pathlib.Path) -> None:
-        self.folder = folder
-        more = {"DOCKER_HOST": f"unix://{folder}/run/docker.sock", "DOCKER_CONFIG": f"{folder}/cli", "DOCKER_BUILDKIT": "0"}
-        self.environment = {**os.environ, **more, "METIS_LOCKS": str(folder)}
-        self.daemon: subprocess.Popen[bytes] | None = None
-
-    def run(self, *words: object, at: pathlib.Path | None = None, **more: str) -> subprocess.CompletedProcess[str]:
-        environment = {**self.environment, **more}
-        return subprocess.run(list(map(str, words)), cwd=at or self.folder, env=environment, capture_output=True, text=True, check=False)
-
-    def begin(self) -> None:
-        for each in ("run", "cli/cli-plugins"):
-            (self.folder / each).mkdir(parents=True, exist_ok=True)
-        if not (self.folder / "cli/config.json").is_file():
-            (self.folder / "cli/config.json").write_text("{}")
-        expect((self.folder / "cli/cli-plugins/docker-compose").is_file(), "Compose 2 is not there")
-        if not pathlib.Path(SPACE).exists():
-            subprocess.run(["ip", "netns", "add", NAMESPACE], check=True)
-        subprocess.run(["nsenter", f"--net={SPACE}", "ip", "link", "set", "lo", "up"], check=True)
-        words = ["nsenter", f"--net={SPACE}", "unshare", "-m", "--propagation", "private", "dockerd"]
-        words += ["-H", self.environment["DOCKER_HOST"], "--data-root", f"{self.folder}/data", "--exec-root", f"{self.folder}/exec"]
-        with open(self.folder / "dockerd.log", "ab") as log:
-            self.daemon = subprocess.Popen([*words, "--pidfile", f"{self.folder}/run/dockerd.pid"], stdout=log, stderr=log, start_new_session=True)
-        while self.run("docker", "version").returncode:
-            expect(self.daemon.poll() is None, "dockerd ended: see dockerd.log")
-            time.sleep(1)
-
-    def end(self) -> None:
-        if self.daemon:
-            self.daemon.terminate()
-            self.daemon.wait()
-
-    def images(self) -> None:
-        root = self.folder / "root"
-        if self.run("docker", "image", "inspect", "base:12").returncode:
-            if not (root / "usr").is_dir():
-                subprocess.run(["debootstrap", "--variant=minbase", f"--include={PACKAGES}", "bookworm", str(root)], check=True)
-            subprocess.run(f"tar -C '{root}' --exclude=./proc/* --exclude=./sys/* -c . | docker import - base:12", shell=True, env=self.environment, check=True)
-        for tag, files in (("trial-pg", {"Dockerfile": PG, "entry.sh": PG_ENTRY}), ("trial-app:1", {"Dockerfile": APP, "app.sh": APP_SH})):
-            self.build(tag, files)
-        self.build("trial-app:2", {"Dockerfile": APP + "ENV VERSION=2\n", "app.sh": APP_SH})
-
-    def build(self, tag: str, files: dict[str, str]) -> None:
-        at = self.folder / "build"
-        shutil.rmtree(at, ignore_errors=True)
-        at.mkdir()
-        for name, text in files.items():
-            (at / name).write_text(text)
-        done = self.run("docker", "build", "-q", "-t", tag, ".", at=at)
-        expect(done.returncode == 0, done.stderr)
-
-
-class Trial:
-    """A project in a folder of its own."""
-
-    def __init__(self, engine: Engine, name: str, value: dict[str, object]) -> None:
-        self.engine, self.name = engine, f"trial-{name}"
-        self.top = engine.folder / "projects" / self.name
-        self.run("docker", "compose", "down", "-v", "-t", "1") if self.top.is_dir() else None
-        shutil.rmtree(self.top, ignore_errors=True)
-        self.top.mkdir(parents=True)
-        (self.top / "Dockerfile").write_text("FROM base:12\n")
-        self.write(value)
-
-    def write(self, value: dict[str, object]) -> None:
-        (self.top / "compose.yaml").write_text(json.dumps({"name": self.name, **value}))
-
-    def run(self, *words: object, **more: str) -> subprocess.CompletedProcess[str]:
-        return self.engine.run(*words, at=self.top, **more)
-
-    def up(self, *words: object, **more: str) -> subprocess.CompletedProcess[str]:
-        return self.run(TOP / "metis", "up", "compose.yaml", "--yes", *words, **more)
-
-    def is_up(self, *words: object) -> None:
-        done = self.up(*words)
-        expect(done.returncode == 0, f"{self.name}: {done.stdout[-800:]}{done.stderr[-800:]}")
-        self.is_as_compose_has_it()
-
-    def containers(self) -> dict[str, tuple[str, str]]:
-        """By service and number the identity of each container, and when it was started."""
-        words = ("docker", "ps", "-aq", "--no-trunc", "--filter", f"label=com.docker.compose.project={self.name}")
-        ids = self.run(*words).stdout.split()
-        found = {}
-        for each in json.loads(self.run("docker", "inspect", *ids).stdout) if ids else []:
-            labels = each["Config"]["Labels"]
-            key = f"{labels['com.docker.compose.service']}-{labels['com.docker.compose.container-number']}"
-            found[key] = (each["Id"], each["State"]["StartedAt"])
-        return found
-
-    def is_as_compose_has_it(self) -> None:
-        """Compose would make nothing anew, and each container is of the hash that the file has now."""
-        done = self.run("docker", "compose", "--dry-run", "up", "-d")
-        said = done.stdout + done.stderr
-        bad = [line for line in said.splitlines() if any(word in line for word in ("Recreate", "Creating", "Error", "Removed"))]
-        expect(not bad and done.returncode == 0, f"{self.name}: Compose would do: {bad or said[-500:]}")
-        expect(self.run(TOP / "metis", "verify", ".metis").returncode == 0, f"{self.name}: verify says that something is lost")
-
-    def rows(self) -> str:
-        words = ("docker", "compose", "exec", "-T", "db", "psql", "-U", "postgres", "-h", "127.0.0.1", "-Atc", "select count(*) from migrated")
-        return self.run(*words).stdout.strip()
-
-    def is_down(self) -> None:
-        done = self.run(TOP / "metis", "down", ".metis", "--yes")
-        expect(done.returncode == 0, f"{self.name}: down: {done.stdout[-800:]}{done.stderr[-800:]}")
-        for kind in ("container ls -a", "network ls", "volume ls"):
-            left = self.run("docker", *kind.split(), "-q", "--filter", f"label=com.docker.compose.project={self.name}").stdout.split()
-            expect(not left, f"{self.name}: down leaves of {kind}: {left}")
-
-
-def changed(before: dict[str, tuple[str, str]], after: dict[str, tuple[str, str]]) -> set[str]:
-    """The containers that are others, or were started again, or are there no more."""
-    return {key for key in {*before, *after} if before.get(key) != after.get(key)}
 
 
 def edits(engine: Engine) -> None:
