@@ -20,11 +20,10 @@ import sys
 import time
 from collections.abc import Callable
 
-from trials.docker_engine import Engine, Trial, changed
-from trials.trial import TOP, Failed, expect
+from trials.docker_engine import Engine, Trial, Value, changed
+from trials.trial import Failed, expect
 
 SEED, KILLS, ROUNDS = 11, 25, 3
-SKELETON = TOP / "metis_planner/carry/skeletons/compose.toml"
 # By name a text of the commands, and what stands in its place where the fault is put back.
 PLANTS = {
     "health": ('await_health "$found" it\n', ":\n"),
@@ -38,10 +37,10 @@ PLANTS = {
 }
 
 
-def project(**more: object) -> dict[str, object]:
+def project(**more: object) -> Value:
     """A database whose health is awaited, a migration whose end is, and a web server."""
     check = {"test": ["CMD-SHELL", "pg_isready -h 127.0.0.1 -U postgres"], "interval": "1s", "timeout": "10s", "retries": 60}
-    services: dict[str, object] = {
+    services: Value = {
         "db": {"image": "trial-pg", "volumes": ["data:/var/lib/postgresql/data"], "healthcheck": check},
         "migrate": {"image": "trial-app:1", "command": "migrate", "depends_on": {"db": {"condition": "service_healthy"}}},
         "web": {
@@ -54,7 +53,7 @@ def project(**more: object) -> dict[str, object]:
     return {"services": {**services, **more}, "volumes": {"data": {}}}
 
 
-def apart() -> dict[str, object]:
+def apart() -> Value:
     """Replicas, a name that Metis writes otherwise, an image that is built, and a service in the namespace of another one."""
     found = project(
         network={"image": "trial-app:1", "command": "web", "deploy": {"replicas": 3}, "depends_on": {"migrate": {"condition": "service_completed_successfully"}}},
@@ -69,7 +68,7 @@ def edits(engine: Engine) -> None:
     value = project()
     trial = Trial(engine, "edits", value)
     trial.is_up()
-    expect(trial.rows() == "1", f"the migration ran {trial.rows()} times")
+    expect(trial.rows() == 1, f"the migration ran {trial.rows()} times")
     services = value["services"]
     for label, service, key, told, concerned in (
         ("environment", "web", "environment", {"A": "1"}, {"web-1"}),
@@ -83,7 +82,7 @@ def edits(engine: Engine) -> None:
         trial.is_up()
         found = changed(before, trial.containers())
         expect(found == concerned, f"{label}: {sorted(found)} changed, and {sorted(concerned)} are concerned")
-        expect(trial.rows() == "1", f"{label}: {trial.rows()} rows")
+        expect(trial.rows() == 1, f"{label}: {trial.rows()} rows")
         expect("nothing is to be done" in trial.up("--dry-run").stdout, f"{label}: a second call would do something")
     trial.is_down()
 
@@ -106,7 +105,7 @@ def mended(engine: Engine) -> None:
     del services["migrate"]["environment"]
     trial.write(value)
     trial.is_up()
-    expect(trial.containers()["db-1"] == database and trial.rows() == "1", "the database is another one")
+    expect(trial.containers()["db-1"] == database and trial.rows() == 1, "the database is another one")
     trial.is_down()
 
 
@@ -122,7 +121,7 @@ def resumed(engine: Engine) -> None:
     expect(trial.up().returncode == 1, "the migration has not failed")
     (trial.top / "flag/good").touch()
     trial.is_up()
-    expect(trial.rows() == "1", f"the migration ran {trial.rows()} times")
+    expect(trial.rows() == 1, f"the migration ran {trial.rows()} times")
     trial.is_down()
 
 
@@ -133,7 +132,7 @@ def killed(engine: Engine) -> None:
         trial = Trial(engine, f"killed{turn}", apart())
         kills = 0
         while kills < KILLS // ROUNDS + (turn < KILLS % ROUNDS):
-            words = [str(TOP / "metis"), "up", "compose.yaml", "--yes"]
+            words = [str(engine.metis), "up", "compose.yaml", "--yes"]
             call = subprocess.Popen(words, cwd=trial.top, env=engine.environment, stdout=subprocess.DEVNULL, stderr=subprocess.DEVNULL, start_new_session=True)
             try:
                 if call.wait(draw.uniform(2, 15)) == 0:
@@ -148,7 +147,7 @@ def killed(engine: Engine) -> None:
                 break
             time.sleep(2)
         trial.is_up()
-        expect(trial.rows() == "1", f"killed {kills} times: the migration ran {trial.rows()} times")
+        expect(trial.rows() == 1, f"killed {kills} times: the migration ran {trial.rows()} times")
         print(f"killed {kills} times, round {turn + 1}: as it should be", flush=True)
         trial.is_down()
 
@@ -160,7 +159,7 @@ def adopted(engine: Engine) -> None:
     expect(trial.run("docker", "compose", "up", "-d").returncode == 0, "Compose does not bring it up")
     before = trial.containers()
     expect("metis adopt" in trial.up().stderr, "up does not name adopt")
-    done = trial.run(TOP / "metis", "adopt", "compose.yaml", "--yes")
+    done = trial.run(engine.metis, "adopt", "compose.yaml", "--yes")
     expect((trial.top / ".metis/plan.txt").is_file(), f"adopt: {done.stdout[-800:]}{done.stderr[-800:]}")
     trial.is_up()
     expect(not changed(before, trial.containers()), "what was taken over is another one")
@@ -211,14 +210,11 @@ def main() -> int:
     parser.add_argument("--plant", choices=PLANTS, help="put this fault back, and fail")
     arguments = parser.parse_args()
     engine = Engine(pathlib.Path(arguments.folder).absolute())
-    text = SKELETON.read_text()
     try:
         engine.begin()
         engine.images()
         if arguments.plant:
-            old, new = PLANTS[arguments.plant]
-            expect(old in text, f"{arguments.plant}: nothing to put it in the place of")
-            SKELETON.write_text(text.replace(old, new))
+            engine.plant(*PLANTS[arguments.plant])
         for name in arguments.part or PARTS:
             PARTS[name](engine)
             print(f"{name}: as it should be", flush=True)
@@ -226,7 +222,6 @@ def main() -> int:
         print(f"not as it should be: {failed}")
         return 1
     finally:
-        SKELETON.write_text(text)
         engine.end()
     return 0
 

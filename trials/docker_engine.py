@@ -84,6 +84,18 @@ class Engine:
         more = {"DOCKER_HOST": f"unix://{folder}/run/docker.sock", "DOCKER_CONFIG": f"{folder}/cli", "DOCKER_BUILDKIT": "0"}
         self.environment = {**os.environ, **more, "METIS_LOCKS": str(folder)}
         self.daemon: subprocess.Popen[bytes] | None = None
+        self.metis = TOP / "metis"
+
+    def plant(self, old: str, new: str) -> None:
+        """Has a fault in the commands from here on, in a copy of the checkout."""
+        copy = self.folder / "planted"
+        shutil.rmtree(copy, ignore_errors=True)
+        shutil.copytree(TOP, copy, ignore=shutil.ignore_patterns(".git", "out"))
+        path = copy / "metis_planner/carry/skeletons/compose.toml"
+        text = path.read_text()
+        expect(old in text, f"nothing to put {new!r} in the place of")
+        path.write_text(text.replace(old, new))
+        self.metis = copy / "metis"
 
     def run(self, *words: object, at: pathlib.Path | None = None, **more: str) -> subprocess.CompletedProcess[str]:
         environment = {**self.environment, **more}
@@ -184,7 +196,7 @@ class Trial:
         return done.stdout
 
     def up(self, *words: object, **more: str) -> "subprocess.CompletedProcess[str]":
-        return self.run(TOP / "metis", "up", "compose.yaml", "--yes", *words, **more)
+        return self.run(self.engine.metis, "up", "compose.yaml", "--yes", *words, **more)
 
     def is_up(self, *words: object, **more: str) -> str:
         """What `up` says, when it has brought the project to what the file says."""
@@ -220,7 +232,7 @@ class Trial:
         told = json.loads(self.said("docker", "compose", "config", "--format", "json"))["services"]
         faults = list(faults_in(self.found(), told, self.image_of))
         expect(not faults, f"{self.name}: not as the file says: {faults}")
-        verified = self.run(TOP / "metis", "verify", ".metis")
+        verified = self.run(self.engine.metis, "verify", ".metis")
         expect(verified.returncode == 0, f"{self.name}: verify says that something is lost: {verified.stdout}{verified.stderr}")
 
     def image_of(self, service: str, told: Value) -> str:
@@ -241,7 +253,7 @@ class Trial:
         return int(self.run(*words, "select count(*) from migrated").stdout.strip() or -1)
 
     def is_down(self) -> None:
-        done = self.run(TOP / "metis", "down", ".metis", "--yes")
+        done = self.run(self.engine.metis, "down", ".metis", "--yes")
         expect(done.returncode == 0, f"{self.name}: down: {done.stdout[-800:]}{done.stderr[-800:]}")
         for kind in ("container ls -a", "network ls", "volume ls"):
             left = self.run("docker", *kind.split(), "-q", "--filter", f"label={LABEL}.project={self.name}").stdout.split()

@@ -21,7 +21,7 @@ from metis_planner.text.terminal import say
 
 ENDINGS = (".yaml", ".yml")
 TARGET, FOLDER, COMMANDS, CONTAINERS = "project:up", ".metis", "commands.toml", "containers"
-PLACE, NAME = "PROJECT", "COMPOSE_PROJECT_NAME"
+PLACE, NAME, HASHES = "PROJECT", "COMPOSE_PROJECT_NAME", "HASHES"
 # What Compose and Docker are told by variables, and what of it names files.
 OF_DOCKER = ("DOCKER_HOST", "DOCKER_CONTEXT", "DOCKER_CONFIG", "DOCKER_CERT_PATH", "DOCKER_TLS_VERIFY")
 PROFILES, FILES = "COMPOSE_PROFILES", {"COMPOSE_FILE": os.pathsep, "COMPOSE_ENV_FILES": ","}
@@ -147,7 +147,8 @@ def project_at(path: str, before: Mapping[str, str] = {}) -> Project:
     for note in dict.fromkeys(plan.notes()):
         say(note)
     kept |= {PLACE: folder, NAME: name}
-    return Project(path, name, plan.document(), commands_of(kept), kept)
+    of_each = {HASHES: " ".join(f"{service}={each}" for service, each in sorted(hashes.items()))}
+    return Project(path, name, plan.document(), commands_of({**kept, **of_each}), kept)
 
 
 def identity(image: str, kept: Mapping[str, str]) -> str:
@@ -157,9 +158,9 @@ def identity(image: str, kept: Mapping[str, str]) -> str:
     return done.stdout.strip().removeprefix("sha256:")[:12] if done.returncode == 0 else NO_IMAGE
 
 
-def commands_of(kept: Mapping[str, str]) -> str:
-    """The commands of a project's steps, with the variables with which Compose is called."""
-    lines = "\n".join(f"{key} = {json.dumps(value)}" for key, value in sorted(kept.items()))
+def commands_of(told: Mapping[str, str]) -> str:
+    """The commands of a project's steps, with the variables with which Compose is called, and the hashes as they were planned."""
+    lines = "\n".join(f"{key} = {json.dumps(value)}" for key, value in sorted(told.items()))
     return whole_text("compose").replace(f"{PLACE} = {UNFILLED}", lines)
 
 

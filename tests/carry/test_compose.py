@@ -6,6 +6,7 @@
 import json
 import os
 import pathlib
+import subprocess
 import tomllib
 
 from metis_planner.answers import Refused
@@ -157,6 +158,65 @@ class UpTest(ComposeCase):
         for key, value in (("COMPOSE_PROJECT_NAME", "other"), ("PROJECT", "/x"), ("DOCKER_HOST", "unix:///y")):
             with self.assertRaisesRegex(Refused, f"f is of another project or daemon: {key} was {value}"):
                 project.check_kept({**project.kept, key: value}, "f")
+
+
+# One container each of web and db, which depend on each other as above; what was created last has the settings of now.
+CONTAINERS = """#!/bin/sh
+cd "$STAND_IN"
+echo "$*" >>calls
+case "$*" in
+"ps "*"service=web "*) echo "1 aaaa running" ;;
+"ps "*"service=db "*) echo "1 bbbb running" ;;
+*"inspect -f {{.Name}} aaaa") echo /shop-web-1 ;;
+*"inspect -f "*config-hash*" aaaa") cat of-web ;;
+*"inspect -f "*service*" shop-db-1") echo db ;;
+*"inspect -f "*service*" shop-web-1") echo web ;;
+"image inspect "*) echo image ;;
+*" config --hash web") echo "web 2222" ;;
+*" config --hash db") cat hash-of-db ;;
+*" config web") printf 'services:\\n  db:\\n    image: db\\n  web:\\n    image: web\\n' ;;
+*" --dry-run create "*) echo " Container shop-db-1  Recreate"; echo " Container shop-web-1  Recreate" ;;
+*" create "*) echo "2222 image web /shop-web-1" >of-web ;;
+*) echo "no such words: $*" >&2; exit 1 ;;
+esac
+"""
+
+
+class MadeAnewTest(ComposeCase):
+    """The step that makes a container anew while another one that it depends on has other settings, too."""
+
+    def setUp(self):
+        super().setUp()
+        (self.top / "bin/docker").write_text(CONTAINERS)
+        self.write(**{"of-web": "old image web /shop-web-1\n", "hash-of-db": "db 1111\n"})
+
+    def step(self, hashes):
+        """How the step of web ends, and what it says."""
+        table = tomllib.loads(compose.commands_of({"PROJECT": str(self.file.parent), "COMPOSE_PROJECT_NAME": "shop", "HASHES": hashes}))
+        script = next(step["run"] for step in table["step"] if step["when"] == "*: absent -> created")
+        (self.top / "containers").unlink()
+        (self.top / "containers").mkdir()
+        (self.top / "containers/web-1").write_text("web 1\n")
+        told = {"METIS_NAME": "web-1", "METIS_TYPE": "web", "METIS_SOURCE": "web", "METIS_SUM": "2222 image with=db:0", "METIS_AGAIN": "yes"}
+        done = subprocess.run(
+            ["sh", "-ec", script], cwd=self.top, env={**os.environ, **table["env"], **told}, capture_output=True, text=True, check=False
+        )
+        return done.returncode, done.stdout + done.stderr
+
+    def creations(self):
+        calls = (self.top / "calls").read_text().splitlines()
+        return [line for line in calls if " create " in line and "--dry-run" not in line]
+
+    def test_what_was_planned_too_has_steps_of_its_own(self):
+        self.assertEqual(self.step("db=1111 web=2222"), (0, "shop-web-1 has other settings or another image\n"))
+        self.assertEqual(self.creations(), ["compose --ansi never create --scale db=1 --scale web=1 web"])
+
+    def test_what_was_edited_after_it_was_planned_is_not_left_stopped(self):
+        self.write(**{"hash-of-db": "db 3333\n"})
+        status, said = self.step("db=1111 web=2222")
+        self.assertEqual(status, 1)
+        self.assertIn("db was edited after this was planned: call metis up\n", said)
+        self.assertEqual(self.creations(), [])
 
 
 class SumTest(FolderCase):
