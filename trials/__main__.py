@@ -11,6 +11,8 @@ SHARED = (
     "__main__",
     "apt_root",
     "browsers",
+    "docker_adopt",
+    "docker_edits",
     "docker_engine",
     "page_browsing",
     "page_cases",

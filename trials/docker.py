@@ -20,6 +20,7 @@ import sys
 import time
 from collections.abc import Callable
 
+from trials import docker_adopt, docker_edits
 from trials.docker_engine import Engine, Trial, Value, changed
 from trials.trial import Failed, expect
 
@@ -31,7 +32,10 @@ PLANTS = {
     "folder": ('(cd "$PROJECT" && exec', "(exec"),
     "again": ('if [ "$METIS_AGAIN" = yes ]; then\n    case', "if false; then\n    case"),
     "delete": ('  docker network rm "$id" >/dev/null', '  docker compose rm --force "$METIS_TYPE"'),
-    "replicas": ('for id in $(ids "$METIS_NAME"); do\n  docker stop', 'for id in $(containers "$service" | cut -d " " -f 2); do\n  docker stop'),
+    "replicas": (
+        'for id in $(ids "$METIS_NAME"); do\n  docker stop',
+        'for id in $(containers "$service" | cut -d " " -f 2); do\n  docker stop',
+    ),
     "claim": ('  case $METIS_TYPE in *@next) ;; *) take ;; esac\n', ""),
     "pull": ("compose pull --quiet --policy missing --ignore-buildable", "compose pull --quiet"),
 }
@@ -56,7 +60,12 @@ def project(**more: object) -> Value:
 def apart() -> Value:
     """Replicas, a name that Metis writes otherwise, an image that is built, and a service in the namespace of another one."""
     found = project(
-        network={"image": "trial-app:1", "command": "web", "deploy": {"replicas": 3}, "depends_on": {"migrate": {"condition": "service_completed_successfully"}}},
+        network={
+            "image": "trial-app:1",
+            "command": "web",
+            "deploy": {"replicas": 3},
+            "depends_on": {"migrate": {"condition": "service_completed_successfully"}},
+        },
         built={"build": ".", "command": ["sleep", "100000"], "init": True},
         side={"image": "trial-app:1", "entrypoint": ["sleep", "100000"], "network_mode": "service:built"},
     )
@@ -133,7 +142,8 @@ def killed(engine: Engine) -> None:
         kills = 0
         while kills < KILLS // ROUNDS + (turn < KILLS % ROUNDS):
             words = [str(engine.metis), "up", "compose.yaml", "--yes"]
-            call = subprocess.Popen(words, cwd=trial.top, env=engine.environment, stdout=subprocess.DEVNULL, stderr=subprocess.DEVNULL, start_new_session=True)
+            quiet = {"stdout": subprocess.DEVNULL, "stderr": subprocess.DEVNULL}
+            call = subprocess.Popen(words, cwd=trial.top, env=engine.environment, start_new_session=True, **quiet)
             try:
                 if call.wait(draw.uniform(2, 15)) == 0:
                     break
@@ -150,24 +160,6 @@ def killed(engine: Engine) -> None:
         expect(trial.rows() == 1, f"killed {kills} times: the migration ran {trial.rows()} times")
         print(f"killed {kills} times, round {turn + 1}: as it should be", flush=True)
         trial.is_down()
-
-
-def adopted(engine: Engine) -> None:
-    """What Compose brought up is taken over and not touched, and an edit after that changes what it concerns."""
-    value = project()
-    trial = Trial(engine, "adopted", value)
-    expect(trial.run("docker", "compose", "up", "-d").returncode == 0, "Compose does not bring it up")
-    before = trial.containers()
-    expect("metis adopt" in trial.up().stderr, "up does not name adopt")
-    done = trial.run(engine.metis, "adopt", "compose.yaml", "--yes")
-    expect((trial.top / ".metis/plan.txt").is_file(), f"adopt: {done.stdout[-800:]}{done.stderr[-800:]}")
-    trial.is_up()
-    expect(not changed(before, trial.containers()), "what was taken over is another one")
-    value["services"]["web"]["environment"] = {"A": "1"}
-    trial.write(value)
-    trial.is_up()
-    expect(changed(before, trial.containers()) == {"web-1"}, "an edit after that changes more than it concerns")
-    trial.is_down()
 
 
 def lost(engine: Engine) -> None:
@@ -199,7 +191,10 @@ def replicas(engine: Engine) -> None:
 
 
 PARTS: dict[str, Callable[[Engine], None]] = {
-    each.__name__: each for each in (edits, mended, resumed, adopted, lost, replicas, killed)
+    **{each.__name__: each for each in (edits, mended, resumed, lost, replicas)},
+    **docker_adopt.PARTS,
+    **docker_edits.PARTS,
+    "killed": killed,
 }
 
 

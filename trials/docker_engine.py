@@ -113,7 +113,8 @@ class Engine:
         words = ["nsenter", f"--net={SPACE}", "unshare", "-m", "--propagation", "private", "dockerd"]
         words += ["-H", self.environment["DOCKER_HOST"], "--data-root", f"{self.folder}/data", "--exec-root", f"{self.folder}/exec"]
         with open(self.folder / "dockerd.log", "ab") as log:
-            self.daemon = subprocess.Popen([*words, "--pidfile", f"{self.folder}/run/dockerd.pid"], stdout=log, stderr=log, start_new_session=True)
+            words += ["--pidfile", f"{self.folder}/run/dockerd.pid"]
+            self.daemon = subprocess.Popen(words, stdout=log, stderr=log, start_new_session=True)
         while self.run("docker", "version").returncode:
             expect(self.daemon.poll() is None, "dockerd ended: see dockerd.log")
             time.sleep(1)
@@ -128,7 +129,8 @@ class Engine:
             root = self.folder / "root"
             if not (root / "usr").is_dir():
                 subprocess.run(["debootstrap", "--variant=minbase", f"--include={PACKAGES}", "bookworm", str(root)], check=True)
-            packed = subprocess.Popen(["tar", "-C", str(root), "--exclude=./proc/*", "--exclude=./sys/*", "-c", "."], stdout=subprocess.PIPE)
+            words = ["tar", "-C", str(root), "--exclude=./proc/*", "--exclude=./sys/*", "-c", "."]
+            packed = subprocess.Popen(words, stdout=subprocess.PIPE)
             subprocess.run(["docker", "import", "-", "base:12"], stdin=packed.stdout, env=self.environment, check=True)
             expect(packed.wait() == 0, "tar failed")
         self.build("trial-pg", {"Dockerfile": PG, "entry.sh": PG_ENTRY})
@@ -177,6 +179,7 @@ class Trial:
     def __init__(self, engine: Engine, name: str, value: Value) -> None:
         self.engine, self.name = engine, f"trial-{name}"
         self.top = engine.folder / "projects" / self.name
+        self.told: dict[str, str] = {}  # with what Compose is called, and Metis is not
         if self.top.is_dir():
             self.run("docker", "compose", "-p", self.name, "down", "-v", "-t", "1", "--remove-orphans")
         shutil.rmtree(self.top, ignore_errors=True)
@@ -188,7 +191,7 @@ class Trial:
         (self.top / "compose.yaml").write_text(json.dumps({"name": self.name, **value}))
 
     def run(self, *words: object, **more: str) -> "subprocess.CompletedProcess[str]":
-        return self.engine.run(*words, at=self.top, **more)
+        return self.engine.run(*words, at=self.top, **{**self.told, **more})
 
     def said(self, *words: object) -> str:
         done = self.run(*words)
@@ -196,7 +199,7 @@ class Trial:
         return done.stdout
 
     def up(self, *words: object, **more: str) -> "subprocess.CompletedProcess[str]":
-        return self.run(self.engine.metis, "up", "compose.yaml", "--yes", *words, **more)
+        return self.engine.run(self.engine.metis, "up", "compose.yaml", "--yes", *words, at=self.top, **more)
 
     def is_up(self, *words: object, **more: str) -> str:
         """What `up` says, when it has brought the project to what the file says."""
