@@ -30,7 +30,7 @@ PLANTS = {
     "health": ('await_health "$found" it\n', ":\n"),
     "lock": ('lock = "compose"\n', ""),
     "folder": ('(cd "$PROJECT" && exec', "(exec"),
-    "again": ('if [ "$METIS_AGAIN" = yes ]; then\n    case', "if false; then\n    case"),
+    "again": ('if [ "$METIS_AGAIN" = yes ]; then\n    #', "if false; then\n    #"),
     "delete": ('  docker network rm "$id" >/dev/null', '  docker compose rm --force "$METIS_TYPE"'),
     "replicas": (
         'for id in $(ids "$METIS_NAME"); do\n  docker stop',
@@ -142,8 +142,8 @@ def killed(engine: Engine) -> None:
         kills = 0
         while kills < KILLS // ROUNDS + (turn < KILLS % ROUNDS):
             words = [str(engine.metis), "up", "compose.yaml", "--yes"]
-            quiet = {"stdout": subprocess.DEVNULL, "stderr": subprocess.DEVNULL}
-            call = subprocess.Popen(words, cwd=trial.top, env=engine.environment, start_new_session=True, **quiet)
+            quiet = subprocess.DEVNULL
+            call = subprocess.Popen(words, cwd=trial.top, env=engine.environment, stdout=quiet, stderr=quiet, start_new_session=True)
             try:
                 if call.wait(draw.uniform(2, 15)) == 0:
                     break

@@ -5,7 +5,6 @@
 
 import json
 import os
-import pathlib
 import subprocess
 import tomllib
 
@@ -182,6 +181,12 @@ esac
 """
 
 
+def step_of(when, hashes, folder):
+    """The command of a step, and the variables of all of them."""
+    table = tomllib.loads(compose.commands_of({"PROJECT": folder, "COMPOSE_PROJECT_NAME": "shop", "HASHES": hashes}))
+    return next(step["run"] for step in table["step"] if step["when"] == when), table["env"]
+
+
 class MadeAnewTest(ComposeCase):
     """The step that makes a container anew while another one that it depends on has other settings, too."""
 
@@ -192,15 +197,13 @@ class MadeAnewTest(ComposeCase):
 
     def step(self, hashes):
         """How the step of web ends, and what it says."""
-        table = tomllib.loads(compose.commands_of({"PROJECT": str(self.file.parent), "COMPOSE_PROJECT_NAME": "shop", "HASHES": hashes}))
-        script = next(step["run"] for step in table["step"] if step["when"] == "*: absent -> created")
+        script, env = step_of("*: absent -> created", hashes, str(self.file.parent))
         (self.top / "containers").unlink()
         (self.top / "containers").mkdir()
         (self.top / "containers/web-1").write_text("web 1\n")
-        told = {"METIS_NAME": "web-1", "METIS_TYPE": "web", "METIS_SOURCE": "web", "METIS_SUM": "2222 image with=db:0", "METIS_AGAIN": "yes"}
-        done = subprocess.run(
-            ["sh", "-ec", script], cwd=self.top, env={**os.environ, **table["env"], **told}, capture_output=True, text=True, check=False
-        )
+        told = {"METIS_NAME": "web-1", "METIS_TYPE": "web", "METIS_SOURCE": "web", "METIS_AGAIN": "yes"}
+        env = {**os.environ, **env, **told, "METIS_SUM": "2222 image with=db:0"}
+        done = subprocess.run(["sh", "-ec", script], cwd=self.top, env=env, capture_output=True, text=True, check=False)
         return done.returncode, done.stdout + done.stderr
 
     def creations(self):
@@ -217,6 +220,29 @@ class MadeAnewTest(ComposeCase):
         self.assertEqual(status, 1)
         self.assertIn("db was edited after this was planned: call metis up\n", said)
         self.assertEqual(self.creations(), [])
+
+
+class AwaitedAgainTest(ComposeCase):
+    """The step that awaits an end, done a second time."""
+
+    def calls_where(self, state):
+        answers = f'case "$*" in "ps "*) echo "1 aaaa running" ;; "inspect "*) echo "{state}" ;; "wait "*) echo 0 ;; esac'
+        (self.top / "bin/docker").write_text(f'#!/bin/sh\necho "$1" >>"$STAND_IN/calls"\n{answers}\n')
+        script, env = step_of("*: started -> completed", "", str(self.file.parent))
+        folder = self.top / "f"
+        (folder / "containers").mkdir(parents=True, exist_ok=True)
+        (folder / "containers/migrate-1").write_text("migrate 1\n")
+        told = {"METIS_NAME": "migrate-1", "METIS_SOURCE": "migrate", "METIS_SUM": "", "METIS_AGAIN": "yes"}
+        (self.top / "calls").unlink(missing_ok=True)
+        subprocess.run(["sh", "-ec", script], cwd=folder, env={**os.environ, **env, **told}, check=True)
+        return (self.top / "calls").read_text().split()
+
+    def test_what_failed_is_started_again(self):
+        self.assertEqual(self.calls_where("exited 3 unchecked no"), ["ps", "inspect", "start", "wait"])
+
+    def test_what_runs_still_or_ended_well_does_not_run_twice(self):
+        for state in ("running 0 unchecked no", "exited 0 unchecked no"):
+            self.assertEqual(self.calls_where(state), ["ps", "inspect", "wait"])
 
 
 class SumTest(FolderCase):
