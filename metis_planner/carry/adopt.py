@@ -5,6 +5,7 @@ numbers by which they are found. Marked is the largest part of the plan that is 
 
   a step whose check says no, or cannot be asked, is not done, and nothing that waits for it is;
   a step whose check says yes is done, unless it waits for such a one; and then all that it waits for is done;
+  a step without a command is done if all that it waits for is done, which may be nothing if its instance has no command at all;
   of anything else nobody knows, and it is not marked: `make` does it (again).
 
 metis adopt compose.yaml needs no more words: it finds each container by Compose's labels.
@@ -77,7 +78,7 @@ class Trial:
         if not said.startswith("good"):
             raise Refused(f"the plan: {said.strip()}")
         self.steps = steps_of(self.plan, "the plan")
-        call.rules(self.steps, {})
+        self.idle = {step.key for step, rule in call.rules(self.steps, {}) if rule is None or rule.does_nothing}
         self.placement = call.placement(self.plan.actions, call.universe, ())
         self.folder = Folder(f"{call.judge.path('')}.f")
         self.write(str(self.folder.path))
@@ -136,7 +137,7 @@ def run(arguments: argparse.Namespace) -> Answer:
         number_of = all_numbers(plan, search.number_of())
         trial = Trial(call, renumbered(plan, number_of))
         said = verdicts(trial.folder, trial.steps, arguments.trust, search.blind)
-        done = front(trial.steps, {key: each.verdict for key, each in said.items()})
+        done = front(trial.steps, {key: each.verdict for key, each in said.items()}, trial.idle)
         tell(trial.steps, said, done, search, number_of)
         for each in trial.strays:
             say(f"{each.name} runs too, and is none of the plan's: nothing here will ever take it away")

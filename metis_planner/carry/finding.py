@@ -173,8 +173,11 @@ def agreed(step: Step, said: Sequence[Said], trusted: Collection[str], blind: Co
     return said[-1]
 
 
-def front(steps: Sequence[Step], verdict_of: Mapping[str, str]) -> set[str]:
+def front(steps: Sequence[Step], verdict_of: Mapping[str, str], idle: Collection[str] = ()) -> set[str]:
     """The keys of what is done for sure: the greatest part of the plan that no check denies, and to which a check leads that says yes.
+
+    Of the idle ones, which do nothing, also those are done that only wait for what is done; the first one of an instance if there is
+    nothing to be done for it at all.
     """
     denied: set[int] = set()
     for step in steps:
@@ -185,4 +188,9 @@ def front(steps: Sequence[Step], verdict_of: Mapping[str, str]) -> set[str]:
     for step in reversed(steps):
         if step.action.number not in denied and (verdict_of.get(step.key) == YES or step.action.number in held):
             held.update((step.action.number, *step.waits))
+    alone = {lane[0].key for lane in lanes(steps).values() if all(step.key in idle for step in lane)}
+    for step in steps:
+        is_behind = held.issuperset(step.waits) if step.waits else step.key in alone
+        if step.key in idle and step.action.number not in denied and is_behind:
+            held.add(step.action.number)
     return {step.key for step in steps if step.action.number in held}

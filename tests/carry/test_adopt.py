@@ -79,6 +79,19 @@ class AdoptTest(ChangedCase):
         self.assertEqual(self.did(), ["web-3 move", "lb-0 move"])
         self.assertEqual(self.states(), {"disk-1": "on", "db-2": "on", "web-3": "on", "lb-0": "on"})
 
+    def test_a_step_without_a_command_is_done_behind_what_is(self):
+        # Nobody can ask whether the last state is there, and nothing is done for it.
+        whole = "[[step]]\nwhen = \"lb: off -> on\"\nrun = ''\n"
+        text = self.text.replace("[[step]]", f"{whole}[[step]]", 1)
+        status, shown, said = self.adopt(commands=text)
+        self.assertEqual((status, self.trace()), (0, []), f"{shown}{said}")
+        shutil.rmtree(self.folder)
+        (self.world / "web-3").unlink()
+        status, shown, _ = self.adopt(commands=text)
+        self.assertEqual(status, 1)
+        self.assertIn("left: make web#3, web#3 takes sql from db#2, web#3: off -> on", shown)
+        self.assertIn("left: lb#0 takes http from web#3, lb#0: off -> on", shown)
+
     def test_numbers_that_run_are_found(self):
         for old, new in (("web-3", "web-7"), ("disk-1", "disk-4")):
             (self.world / old).rename(self.world / new)
