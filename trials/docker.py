@@ -37,7 +37,7 @@ PLANTS = {
         'for id in $(containers "$service" | cut -d " " -f 2); do\n  docker stop',
     ),
     "claim": ('  case $METIS_TYPE in *@next) ;; *) take ;; esac\n', ""),
-    "pull": ("compose pull --quiet --policy missing --ignore-buildable", "compose pull --quiet"),
+    "pull": ("if is_there; then exit; fi\n", ""),
 }
 
 

@@ -37,7 +37,8 @@ class ComposeCase(FolderCase):
         (self.top / "shop").mkdir()
         self.file = self.top / "shop/compose.yaml"
         self.file.write_text("")
-        self.write(project=self.project(), hashes="db 1111\nweb 2222\n", image="sha256:abcdefabcdefabcdef\n", containers="", version="2.26.1\n")
+        texts = {"hashes": "db 1111\nweb 2222\n", "image": "sha256:abcdefabcdefabcdef\n", "containers": "", "version": "2.26.1\n"}
+        self.write(project=self.project(), **texts)
         before = dict(os.environ)
         self.addCleanup(lambda: (os.environ.clear(), os.environ.update(before)))
         os.environ.update(PATH=f"{self.top / 'bin'}:{os.environ['PATH']}", STAND_IN=str(self.top))
@@ -181,10 +182,10 @@ esac
 """
 
 
-def step_of(when, hashes, folder):
-    """The command of a step, and the variables of all of them."""
+def step_of(when, hashes, folder, key="run"):
+    """The command of a step, or its check, and the variables of all of them."""
     table = tomllib.loads(compose.commands_of({"PROJECT": folder, "COMPOSE_PROJECT_NAME": "shop", "HASHES": hashes}))
-    return next(step["run"] for step in table["step"] if step["when"] == when), table["env"]
+    return next(step[key] for step in table["step"] if step["when"] == when), table["env"]
 
 
 class MadeAnewTest(ComposeCase):
@@ -243,6 +244,75 @@ class AwaitedAgainTest(ComposeCase):
     def test_what_runs_still_or_ended_well_does_not_run_twice(self):
         for state in ("running 0 unchecked no", "exited 0 unchecked no"):
             self.assertEqual(self.calls_where(state), ["ps", "inspect", "wait"])
+
+
+class StartedTest(ComposeCase):
+    """Whether a container that has ended counts as started."""
+
+    def is_started(self, state, sum_of_it="1111 x", ports=0):
+        answers = [
+            "#!/bin/sh",
+            'case "$*" in',
+            '"ps "*) echo "1 aaaa exited" ;;',
+            f'*PortBindings*) echo {ports} ;;',
+            '*config-hash*) echo "1111 x image /shop-web-1" ;;',
+            '"image inspect "*) echo x ;;',
+            f'*) echo "{state}" ;;',
+            "esac",
+        ]
+        (self.top / "bin/docker").write_text("\n".join(answers) + "\n")
+        folder = self.top / "f"
+        (folder / "containers").mkdir(parents=True, exist_ok=True)
+        (folder / "containers/web-1").write_text("web 1\n")
+        script, env = step_of("*: created -> started", "", str(self.file.parent), "check")
+        told = {**os.environ, **env, "METIS_NAME": "web-1", "METIS_SOURCE": "web", "METIS_SUM": sum_of_it}
+        return subprocess.run(["sh", "-ec", script], cwd=folder, env=told, stdout=subprocess.DEVNULL, check=False).returncode == 0
+
+    def test_what_runs_or_is_a_job_that_ended_well_is_started(self):
+        self.assertTrue(self.is_started("running 0 healthy no"))
+        self.assertTrue(self.is_started("exited 0 unchecked no"))
+        self.assertTrue(self.is_started("exited 0 unhealthy no", "1111 x once"))
+
+    def test_a_server_that_was_stopped_is_not(self):
+        self.assertFalse(self.is_started("exited 0 unhealthy no"))
+        self.assertFalse(self.is_started("exited 0 unchecked always"))
+        self.assertFalse(self.is_started("exited 0 unchecked no", ports=1))
+        self.assertFalse(self.is_started("exited 3 unchecked no"))
+
+
+class ImageTest(ComposeCase):
+    """The step of an image asks no registry for another one than its own, and builds what is built."""
+
+    def calls_for(self, image):
+        services = ("  db:", "    image: db", "  two:", "    build:", "      context: .", "    image: own", "  web:", "    build: {}")
+        config = "\\n".join(("services:", *services, "networks:", ""))
+        answers = [
+            "#!/bin/sh",
+            'cd "$STAND_IN"',
+            'case "$*" in',
+            f'"compose --ansi never config") printf "{config}" ;;',
+            '"image inspect "*) test -e there || { [ "$3" = db ] && test ! -e lacks; } ;;',
+            '*) shift 3; echo "$*" >>calls; if [ "$1" = build ] || [ -e lacks ]; then : >there; fi ;;',
+            "esac",
+        ]
+        (self.top / "bin/docker").write_text("\n".join(answers) + "\n")
+        for name in ("calls", "there"):
+            (self.top / name).unlink(missing_ok=True)
+        script, env = step_of("image/*: absent -> there", "", str(self.file.parent))
+        told = {**os.environ, **env, "METIS_SOURCE": f"image/{image}", "METIS_SUM": ""}
+        subprocess.run(["sh", "-ec", script], cwd=self.top, env=told, check=True)
+        return (self.top / "calls").read_text().splitlines() if (self.top / "calls").exists() else []
+
+    def test_what_is_there_is_not_asked_for(self):
+        self.assertEqual(self.calls_for("db"), [])
+
+    def test_what_lacks_is_pulled_alone(self):
+        self.write(lacks="")
+        self.assertEqual(self.calls_for("db"), ["pull --quiet --ignore-buildable db"])
+
+    def test_what_is_built_is_built_alone(self):
+        for image, service in (("shop-web", "web"), ("own", "two")):
+            self.assertEqual(self.calls_for(image), [f"pull --quiet --ignore-buildable {service}", f"build --quiet {service}"])
 
 
 class SumTest(FolderCase):
