@@ -14,14 +14,14 @@ from collections.abc import Iterable, Mapping, Sequence
 from typing import Any, NamedTuple
 
 from metis_planner.answers import Refused
-from metis_planner.carry.skeleton import UNFILLED, whole_text
+from metis_planner.carry.skeleton import UNFILLED, quoted, whole_text
 from metis_planner.importers import compose as importer
 from metis_planner.importers.compose.input import DEFAULT_NAMES, NO_IMAGE, read_project, with_sums
 from metis_planner.text.terminal import say
 
 ENDINGS = (".yaml", ".yml")
 TARGET, FOLDER, COMMANDS, CONTAINERS = "project:up", ".metis", "commands.toml", "containers"
-PLACE, NAME, HASHES = "PROJECT", "COMPOSE_PROJECT_NAME", "HASHES"
+PLACE, NAME, HASHES, WAIT = "PROJECT", "COMPOSE_PROJECT_NAME", "HASHES", "WAIT"
 # What Compose and Docker are told by variables, and what of it names files.
 OF_DOCKER = ("DOCKER_HOST", "DOCKER_CONTEXT", "DOCKER_CONFIG", "DOCKER_CERT_PATH", "DOCKER_TLS_VERIFY")
 PROFILES, FILES = "COMPOSE_PROFILES", {"COMPOSE_FILE": os.pathsep, "COMPOSE_ENV_FILES": ","}
@@ -48,7 +48,7 @@ class Project(NamedTuple):
         return not any(NO_IMAGE in each.split() for each in sums)
 
     def again(self) -> "Project":
-        return project_at(self.path, self.kept)
+        return project_at(self.path, self.kept, WAIT in self.kept)
 
     def check_kept(self, before: Mapping[str, str], to: str) -> None:
         """Refuses to go on in a folder that is of another project, or at another daemon."""
@@ -98,7 +98,7 @@ def kept_in(to: str) -> dict[str, str]:
     path = pathlib.Path(to) / COMMANDS
     if not path.is_file():
         return {}
-    known = {*OF_DOCKER, PROFILES, *FILES, PLACE, NAME}
+    known = {*OF_DOCKER, PROFILES, *FILES, PLACE, NAME, WAIT}
     try:
         told = tomllib.loads(path.read_text(encoding="utf-8"))
     except (OSError, ValueError) as fault:
@@ -124,12 +124,13 @@ def variables(path: str, before: Mapping[str, str]) -> dict[str, str]:
     return kept
 
 
-def project_at(path: str, before: Mapping[str, str] = {}) -> Project:
-    """The project as Compose reads it now."""
+def project_at(path: str, before: Mapping[str, str] = {}, is_all_awaited: bool = False) -> Project:
+    """The project as Compose reads it now; with each healthcheck awaited, if that was said once."""
     path = os.path.abspath(path)
     if not os.path.isfile(path):
         raise Refused(f"{path}: there is no such file")
     folder, kept = os.path.dirname(path), variables(path, before)
+    is_all_awaited = is_all_awaited or WAIT in before
     told: dict[str, Any] = json.loads(said(["compose", "config", "--format", "json"], folder, kept))
     rows = said(["compose", "config", "--hash", "*"], folder, kept).splitlines()
     hashes = dict(row.split() for row in rows if len(row.split()) == 2)
@@ -143,10 +144,10 @@ def project_at(path: str, before: Mapping[str, str] = {}) -> Project:
     with tempfile.TemporaryDirectory(prefix="metis-compose-") as texts:
         resolved = pathlib.Path(texts) / "project.json"
         resolved.write_text(json.dumps(told))
-        plan = importer.Plan([with_sums(read_project(str(resolved)), sums)], ["*"])
+        plan = importer.Plan([with_sums(read_project(str(resolved)), sums)], ["*"], is_all_awaited=is_all_awaited)
     for note in dict.fromkeys(plan.notes()):
         say(note)
-    kept |= {PLACE: folder, NAME: name}
+    kept |= {PLACE: folder, NAME: name, **({WAIT: "yes"} if is_all_awaited else {})}
     of_each = {HASHES: " ".join(f"{service}={each}" for service, each in sorted(hashes.items()))}
     return Project(path, name, plan.document(), commands_of({**kept, **of_each}), kept)
 
@@ -160,7 +161,7 @@ def identity(image: str, kept: Mapping[str, str]) -> str:
 
 def commands_of(told: Mapping[str, str]) -> str:
     """The commands of a project's steps, with the variables with which Compose is called, and the hashes as they were planned."""
-    lines = "\n".join(f"{key} = {json.dumps(value)}" for key, value in sorted(told.items()))
+    lines = "\n".join(f"{key} = {quoted(value)}" for key, value in sorted(told.items()))
     return whole_text("compose").replace(f"{PLACE} = {UNFILLED}", lines)
 
 

@@ -80,7 +80,9 @@ def request_of(arguments: argparse.Namespace) -> Request:
     project = None
     if universe and is_project(str(universe)) and not commands:
         targets, to = targets or (TARGET,), to or os.path.join(os.path.dirname(str(universe)), FOLDER)
-        project, commands = compose_project(str(universe), str(to)), os.path.join(str(to), COMMANDS)
+        project, commands = compose_project(str(universe), str(to), arguments.wait), os.path.join(str(to), COMMANDS)
+    elif arguments.wait:
+        raise Refused("--wait is for a Compose file")
     given = {"a universe": universe, "a target": targets, "--commands": commands, "--to": to}
     lacking = [name for name, value in given.items() if not value]
     if lacking:
@@ -108,10 +110,10 @@ def request_of(arguments: argparse.Namespace) -> Request:
     )
 
 
-def compose_project(path: str, to: str) -> Project:
+def compose_project(path: str, to: str, is_all_awaited: bool) -> Project:
     """A Compose project that is to be carried out in a folder, which is none of another project."""
     before = kept_in(to)
-    project = project_at(path, before)
+    project = project_at(path, before, is_all_awaited)
     project.check_kept(before, to)
     if not Folder(to).has_plan():
         project.check_fresh(to)

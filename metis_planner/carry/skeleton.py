@@ -6,10 +6,12 @@ the plan where there is no universe.
 
 import dataclasses
 import json
+import os
 import pathlib
 import re
 from collections.abc import Iterable, Iterator
 
+from metis_planner.answers import Refused
 from metis_planner.carry.patterns import Patterns, fits_something, subject
 from metis_planner.carry.possible import PossibleActions
 from metis_planner.importers.compose.input import DEFAULT_NAMES
@@ -25,6 +27,7 @@ timeout = 600
 TO_FILL_IN = "echo 'this step is not written yet' >&2; false"
 # The document of an importer says in its comment by which one it was made.
 BY_IMPORTER = re.compile(r"by importers (compose|debian|kubernetes)\b")
+COMPOSE_FILE = re.compile(r"by importers compose from (/.+); target: ")
 OF_COMPOSE = re.compile(r"(?:image|network|volume)/.+: absent -> there|project(?:@next)?: down -> up|.+: created -> started")
 OF_KUBERNETES = re.compile(r"[A-Z][A-Za-z0-9]*/.+: absent -> (?:there|applied)|manifests: down -> up|.+@ready: awaited -> ready")
 OF_DEBIAN = {"installed", "unpacked", "configured", "set-up"}
@@ -89,14 +92,34 @@ def fitting(text: str, possible: PossibleActions) -> str:
     return "\n\n".join([head, *(step.rstrip("\n") for step in kept)]) + "\n"
 
 
-def of_source(name: str, plan: plans.Plan, possible: PossibleActions) -> str:
+def quoted(text: str) -> str:
+    """A text as TOML has it."""
+    try:
+        text.encode()
+    except UnicodeEncodeError as fault:
+        raise Refused(f"{ascii(text)} is no text in UTF-8") from fault
+    return json.dumps(text, ensure_ascii=False).replace("\x7f", "\\u007f")
+
+
+def with_folder(text: str, comment: str) -> str:
+    """The commands of a Compose project with its folder: that of the file which the document names, else this one if a file is here."""
+    named = COMPOSE_FILE.search(comment)
+    beside = [os.path.abspath(each) for each in DEFAULT_NAMES if os.path.isfile(each)]
+    if not named and not beside:
+        return text
+    path = pathlib.Path(named[1] if named else beside[0])
+    more = "" if path.name in DEFAULT_NAMES else f"\nCOMPOSE_FILE = {quoted(str(path))}"
+    return text.replace(UNFILLED, quoted(str(path.parent)) + more)
+
+
+def of_source(name: str, plan: plans.Plan, possible: PossibleActions, comment: str) -> str:
     """What comes with the package for this plan, and a step to fill in for each move that it does not know."""
     text = fitting(whole_text(name), possible)
     patterns = Patterns(WHEN.findall(text))
     moves = dict.fromkeys(subject(action) for action in plan.actions if isinstance(action, Move))
     more = to_fill_in(each for each in moves if patterns.first(each) is None)
-    if name == "compose" and any(pathlib.Path(each).is_file() for each in DEFAULT_NAMES):
-        text = text.replace(UNFILLED, json.dumps(str(pathlib.Path.cwd())))
+    if name == "compose":
+        text = with_folder(text, comment)
     return "".join([text, *(rule.text() for rule in more)])
 
 
@@ -105,4 +128,4 @@ def text_of(plan: plans.Plan, possible: PossibleActions, comment: str = "") -> s
     for action in plan.actions:
         possible.add(action)
     name = source_of(plan, comment)
-    return of_source(name, plan, possible) if name else "".join([HEAD, *(rule.text() for rule in by_hand(plan))])
+    return of_source(name, plan, possible, comment) if name else "".join([HEAD, *(rule.text() for rule in by_hand(plan))])

@@ -56,6 +56,8 @@ def add_arguments(parser: argparse.ArgumentParser) -> None:
     parser.add_argument("-j", "--jobs", type=int, metavar="N", help=f"how many steps at the same time ({DEFAULT_JOBS})")
     help_text = "look for a first plan with few instances, as `metis lean` does"
     parser.add_argument("--lean", action="store_true", help=help_text)
+    help_text = "await each healthcheck of a Compose project, from now on, as `docker compose up --wait` does"
+    parser.add_argument("--wait", action="store_true", help=help_text)
     parser.add_argument("--yes", action="store_true", help="do not ask; what loses data has to be named by --delete all the same")
     more = parser.add_argument_group("when something stands already")
     help_text = "a wish by names, such as 'rebind prom#0', 'retire cert#4' or 'rebind all'"

@@ -134,6 +134,26 @@ class UpTest(ComposeCase):
         compose.project_at(str(self.file), kept)
         self.assertTrue((self.top / "calls").read_text().splitlines()[-1].endswith(" debug"))
 
+    def test_each_health_check_is_awaited_from_then_on(self):
+        project = self.project()
+        project["services"]["web"]["healthcheck"] = {"test": ["CMD", "true"]}
+        self.write(project=project)
+        self.assertNotIn(": started -> healthy", self.up("--dry-run")[1])
+        self.assertIn(": started -> healthy", self.up("--dry-run", "--wait")[1])
+        found = compose.project_at(str(self.file), {}, is_all_awaited=True)
+        (self.top / "f").mkdir()
+        (self.top / "f" / compose.COMMANDS).write_text(found.commands)
+        self.assertIn(": started -> healthy", self.up("--dry-run", "--to", self.top / "f")[1])
+        self.assertEqual(found.again().document, found.document)
+        status, _, said = call("up", "u.json", "A:on", "--commands", "c", "--to", "f", "--wait")
+        self.assertEqual((status, said), (1, "metis: --wait is for a Compose file\n"))
+
+    def test_a_folder_of_any_name_is_told_to_the_steps(self):
+        shop = self.top / "in \U0001f40b\x7f"
+        self.file.parent.rename(shop)
+        project = compose.project_at(str(shop / "compose.yaml"))
+        self.assertEqual(tomllib.loads(project.commands)["env"]["PROJECT"], str(shop))
+
     def test_a_damaged_commands_file_is_refused_in_a_line(self):
         folder = self.top / "f"
         folder.mkdir()

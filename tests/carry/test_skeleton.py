@@ -100,6 +100,17 @@ class FitTest(SkeletonCase):
             status, _, err = call("make", "plan.txt", "--commands", "steps.toml", "--to", f"f{len(services)}{services is APART}", *words)
             self.assertEqual((status, err), (0, ""))
 
+    def test_the_folder_is_that_of_the_file_which_the_document_names(self):
+        (self.top / "in \U0001f40b").mkdir()
+        for name, more in (("compose.yaml", {}), ("other.yaml", {"COMPOSE_FILE": str(self.top / "in \U0001f40b/other.yaml")})):
+            path = self.top / "in \U0001f40b" / name
+            path.write_text(json.dumps({"name": "shop", "services": {"web": alone()}}))
+            status, document, _ = call("import", "compose", path)
+            self.assertEqual(status, 0)
+            pathlib.Path("u.json").write_text(document)
+            env = tomllib.loads(self.printed(plan_of("1 new 0 web\n"), "--universe", "u.json"))["env"]
+            self.assertEqual({key: env[key] for key in env if key != "FUNCTIONS"}, {"PROJECT": str(path.parent), **more})
+
     def test_the_folder_of_the_project_is_filled_in_where_that_is_the_current_one(self):
         self.assertIn('PROJECT = "/WHOLE/PATH"', self.printed(plan_of(PARTS[0])))
         pathlib.Path("compose.yaml").write_text("")

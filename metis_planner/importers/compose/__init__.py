@@ -3,6 +3,7 @@
 import argparse
 import dataclasses
 import hashlib
+import os
 from collections.abc import Iterator, Sequence
 
 from metis_planner.answers import Answer, Refused
@@ -138,7 +139,9 @@ class Plan:
         given: Sequence[str] = (),
         replaces_data: bool = False,
         is_all_awaited: bool = False,
+        path: str = "",
     ) -> None:
+        self.path = path if os.path.isabs(path) and path.isprintable() else ""  # of the first one, which other words may look for
         self.deployments = [
             Deployment(project, tuple(profiles) or project.profiles, given, is_all_awaited) for project in projects
         ]
@@ -172,7 +175,8 @@ class Plan:
         )
         standing = f", where {', '.join(self.given)} stands" if self.given else ""
         targets = f"{PROJECT}:up" + (f" or {PROJECT}{NEXT}:up" if self.both else "")
-        return f"{named}{standing}, by importers compose; target: {targets}"
+        origin = f" from {self.path}" if self.path else ""
+        return f"{named}{standing}, by importers compose{origin}; target: {targets}"
 
     def notes(self) -> Iterator[str]:
         """What was left open, or to others."""
@@ -243,5 +247,5 @@ def add_arguments(parser: argparse.ArgumentParser) -> None:
 def run(arguments: argparse.Namespace) -> Answer:
     paths = [arguments.file] + ([arguments.next] if arguments.next else [])
     projects = [read_project(path) for path in paths]
-    plan = Plan(projects, arguments.profile, arguments.given, arguments.replace_data, arguments.wait)
+    plan = Plan(projects, arguments.profile, arguments.given, arguments.replace_data, arguments.wait, paths[0])
     return Answer(plan.document(), list(dict.fromkeys(plan.notes())))
