@@ -256,7 +256,8 @@ def names(engine: Engine) -> None:
 IN_SPACES = (
     Edit("command of one that others stand on", {"services.app.command": ["sleep", "200000"]}, "app-1 side-1 tail-1"),
     Edit("one that stands on it", {"services.side.environment": {"A": "1"}}, "side-1"),
-    Edit("another condition", {"services.watcher.depends_on.once": COMPLETED}, "watcher-1"),
+    # What was awaited in two ways is awaited in one: for Metis the job is another one, and runs again.
+    Edit("another condition", {"services.watcher.depends_on.once": COMPLETED}, "once-1 once-2 watcher-1"),
     Edit("no volumes of another one", {"services.tail.volumes_from": None}, "tail-1"),
 )
 

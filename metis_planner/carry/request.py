@@ -14,7 +14,7 @@ from metis_planner.carry.compose import COMMANDS, FOLDER, TARGET, Project, is_pr
 from metis_planner.carry.configuration import CONFIGURATION, checked_jobs, configured, is_of
 from metis_planner.carry.engines import make, ninja, slurm
 from metis_planner.carry.folder import Folder, sum_of
-from metis_planner.carry.named_wishes import Wishes
+from metis_planner.carry.named_wishes import EVERYBODY, Wishes
 from metis_planner.carry.writing import write_whole
 from metis_planner.text import plans
 
@@ -68,7 +68,9 @@ class Request:
         return Wanted(self.universe, self.targets, self.wishes)
 
     def wishes_said(self) -> Wishes:
-        return Wishes(text_of_wishes(self.wanted), str(self.wishes), self.lines)
+        # In a Compose project no step tells anybody where it finds another one, so anything may be bound anew.
+        own = (EVERYBODY,) if self.project else ()
+        return Wishes(text_of_wishes(self.wanted), str(self.wishes), (*own, *self.lines))
 
 
 def request_of(arguments: argparse.Namespace) -> Request:

@@ -335,6 +335,36 @@ class ImageTest(ComposeCase):
             self.assertEqual(self.calls_for(image), [f"pull --quiet --ignore-buildable {service}", f"build --quiet {service}"])
 
 
+class BoundAnewTest(ComposeCase):
+    """An edit of what is waited for needs no word about who is bound anew."""
+
+    def test_a_milestone_that_nobody_awaits_beside_the_start_any_more(self):
+        project = self.project()
+        services = project["services"]
+        services["more"] = {"image": "more", "network_mode": "none", "depends_on": {"db": {"condition": "service_completed_successfully"}}}
+        self.write(project=project, hashes="db 1111\nweb 2222\nmore 3333\n")
+        before = compose.project_at(str(self.file))
+        self.assertIn("db/completed", self.types())
+        self.stands_all(before)
+        services["web"]["depends_on"]["db"]["condition"] = "service_completed_successfully"
+        self.write(project=project, hashes="db 1111\nweb 4444\nmore 3333\n")
+        status, out, said = self.up("--dry-run")
+        self.assertEqual(status, 2, said)
+        self.assertIn("change web#", out)
+
+    def stands_all(self, project):
+        """The folder as it is when all of a project was brought up."""
+        folder = self.file.parent / compose.FOLDER
+        document, commands = self.top / "u.json", self.top / "c.toml"
+        document.write_text(project.document)
+        env = "\n".join(f'{key} = {json.dumps(value)}' for key, value in project.kept.items())
+        steps = "".join(f"[[step]]\nwhen = '*: {each}'\nrun = ''\n" for each in ("new", "* -> *", "bind *"))
+        commands.write_text(f"[env]\n{env}\n{steps}")
+        status, _, said = call("up", document, compose.TARGET, "--commands", commands, "--to", folder, "--yes")
+        self.assertEqual(status, 0, said)
+        (folder / compose.COMMANDS).write_text(project.commands)
+
+
 class SumTest(FolderCase):
     def change(self, had, has):
         states = (State("a", next=("b",)), State("b"))
