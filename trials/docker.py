@@ -135,31 +135,40 @@ def resumed(engine: Engine) -> None:
 
 
 def killed(engine: Engine) -> None:
-    """`up` and all in its session are killed at any moment, and called again until it ends well."""
+    """`up` and all in its session are killed at any moment, and called again; what is up is edited, until all kills are done."""
     draw = random.Random(SEED)
     for turn in range(ROUNDS):
-        trial = Trial(engine, f"killed{turn}", apart())
-        kills = 0
-        while kills < KILLS // ROUNDS + (turn < KILLS % ROUNDS):
-            words = [str(engine.metis), "up", "compose.yaml", "--yes"]
-            quiet = subprocess.DEVNULL
-            call = subprocess.Popen(words, cwd=trial.top, env=engine.environment, stdout=quiet, stderr=quiet, start_new_session=True)
-            try:
-                if call.wait(draw.uniform(2, 15)) == 0:
-                    break
-            except subprocess.TimeoutExpired:
-                os.killpg(call.pid, draw.choice((signal.SIGKILL, signal.SIGTERM, signal.SIGINT)))
-                call.wait()
-                kills += 1
-        for _ in range(20):
+        value = apart()
+        trial = Trial(engine, f"killed{turn}", value)
+        kills, edited = KILLS // ROUNDS + (turn < KILLS % ROUNDS), 0
+        for _ in range(kills):
+            while not is_killed(trial, draw):
+                edited += 1
+                value["services"]["network"]["environment"] = {"A": str(edited)}
+                trial.write(value)
+        for _ in range(20):  # what was killed may still be at work
             done = trial.up()
             if done.returncode == 0:
                 break
             time.sleep(2)
         trial.is_up()
         expect(trial.rows() == 1, f"killed {kills} times: the migration ran {trial.rows()} times")
-        print(f"killed {kills} times, round {turn + 1}: as it should be", flush=True)
+        trial.compose_makes_nothing()
+        print(f"  killed {kills} times, with {edited} edits", flush=True)
         trial.is_down()
+
+
+def is_killed(trial: Trial, draw: random.Random) -> bool:
+    """Whether a call of `up` was killed; else it was at its end before."""
+    words, quiet = [str(trial.engine.metis), "up", "compose.yaml", "--yes"], subprocess.DEVNULL
+    call = subprocess.Popen(words, cwd=trial.top, env=trial.engine.environment, stdout=quiet, stderr=quiet, start_new_session=True)
+    try:
+        call.wait(draw.uniform(1, 8))
+        return False
+    except subprocess.TimeoutExpired:
+        os.killpg(call.pid, draw.choice((signal.SIGKILL, signal.SIGTERM, signal.SIGINT)))
+        call.wait()
+        return True
 
 
 def lost(engine: Engine) -> None:

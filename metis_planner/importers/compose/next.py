@@ -4,19 +4,25 @@ import dataclasses
 from collections.abc import Sequence
 
 from metis_planner.text.documents import ComponentType, Names, one_each
+from metis_planner.text.wishes import HEAD
 
 PROJECT = "project"
 NEXT = "@next"
+EVERYBODY = "rebind all"  # as `metis up` reads it
 
 
 class BothForms:
     """The types of a project, and beside them those of the next one that are not the same.
 
     A type of the second that differs from the first's of its name, or requires what such a one provides, stands as
-    NAME@next, and so do the ports that it provides.
+    NAME@next, and so do the ports that it provides. Where whoever waits is bound anew, only what differs stands as NAME@next, and
+    it offers the ports of before.
     """
 
-    def __init__(self, first: Sequence[ComponentType], second: Sequence[ComponentType], names: Names) -> None:
+    def __init__(
+        self, first: Sequence[ComponentType], second: Sequence[ComponentType], names: Names, is_rebound: bool = False
+    ) -> None:
+        self.is_rebound = is_rebound
         self.first = first
         self.second = second
         self.names = names
@@ -35,7 +41,7 @@ class BothForms:
         while work:
             component = work.pop()
             renamed.add(component.name)
-            for state in component.states:
+            for state in () if self.is_rebound else component.states:
                 for port in state.provide:
                     others = requiring.get(port, ())
                     work += [each for each in others if each.name in self.standing and each.name not in renamed]
@@ -60,9 +66,14 @@ class BothForms:
         ports = {
             port for each in self.second if each.name in self.renamed for state in each.states for port in state.provide
         }
-        port_of = {port: self.next_of(port) for port in sorted(ports)}
+        port_of = {} if self.is_rebound else {port: self.next_of(port) for port in sorted(ports)}
         fresh = [each for each in self.second if each.name in self.renamed or each.name not in self.standing]
         return [*map(self.at_both, self.first), *(self.moved(each, port_of) for each in fresh)]
+
+    def wishes(self) -> str:
+        """The wishes by which what is the same stays, and is bound to what has changed."""
+        avoided = sorted(self.renamed & self.standing.keys() - {PROJECT})
+        return "".join(f"{line}\n" for line in (HEAD, *(f"avoid {name}" for name in avoided), EVERYBODY, "end"))
 
     def next_of(self, name: str) -> str:
         return self.names.of(self.names.text_of.get(name, name) + NEXT)
