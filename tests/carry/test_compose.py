@@ -5,6 +5,7 @@
 
 import json
 import os
+import re
 import subprocess
 import tomllib
 
@@ -363,6 +364,49 @@ class BoundAnewTest(ComposeCase):
         status, _, said = call("up", document, compose.TARGET, "--commands", commands, "--to", folder, "--yes")
         self.assertEqual(status, 0, said)
         (folder / compose.COMMANDS).write_text(project.commands)
+
+
+class ReboundTest(FolderCase):
+    """A rollout in which what waits for a changed service stays, as where it has a port of the host."""
+
+    def services(self, image):
+        api = {"image": image, "deploy": {"replicas": 2}, "network_mode": "none"}
+        proxy = {"image": "proxy", "ports": ["80:80"], "depends_on": {"api": {"condition": "service_started"}}, "networks": ["n"]}
+        return {"name": "shop", "services": {"api": api, "proxy": proxy}, "networks": {"n": {}}}
+
+    def rolled(self, *words):
+        for name, image in (("one.yaml", "api:1"), ("two.yaml", "api:2")):
+            (self.top / name).write_text(json.dumps(self.services(image)))
+        status, document, _ = call("import", "compose", self.top / "one.yaml", "--next", self.top / "two.yaml", *words)
+        self.assertEqual(status, 0)
+        (self.top / "u.json").write_text(document)
+        verbs = ("new", "* -> *", "bind *", "unbind *", "delete")
+        (self.top / "c.toml").write_text("".join(f"[[step]]\nwhen = '*: {each}'\nrun = ''\n" for each in verbs))
+
+    def up(self, *words):
+        status, out, said = call("up", self.top / "u.json", *words, "--commands", self.top / "c.toml", "--to", self.top / "f")
+        self.assertIn(status, (0, 2), said)
+        return out
+
+    def test_the_proxy_stays_and_is_bound_to_the_next_interface(self):
+        wishes = self.top / "w.txt"
+        self.rolled("--rebind", wishes)
+        self.up("project:up", "--yes")
+        shown = self.up("project@next:up", "--wishes", wishes, "--dry-run")
+        self.assertRegex(shown, r"kept     proxy#\d+")
+        self.assertRegex(shown, r"proxy#\d+ takes api/started from api@next#\d+")
+        self.assertEqual(len(set(re.findall(r"going    (api#\d+)", shown))), 2)
+        self.assertNotIn("proxy@next", shown)
+
+    def test_without_it_the_proxy_is_made_anew(self):
+        self.rolled()
+        self.up("project:up", "--yes")
+        self.assertIn("new      proxy@next#", self.up("project@next:up", "--dry-run"))
+
+    def test_it_is_for_a_next_form(self):
+        (self.top / "one.yaml").write_text(json.dumps(self.services("api:1")))
+        status, out, said = call("import", "compose", self.top / "one.yaml", "--rebind", self.top / "w.txt")
+        self.assertEqual((status, out, said), (1, "", "metis: --rebind is for --next\n"))
 
 
 class SumTest(FolderCase):

@@ -4,9 +4,11 @@ import argparse
 import dataclasses
 import hashlib
 import os
+import pathlib
 from collections.abc import Iterator, Sequence
 
 from metis_planner.answers import Answer, Refused
+from metis_planner.carry.writing import write_whole
 from metis_planner.importers.compose.deployment import Deployment
 from metis_planner.importers.compose.input import COMPLETED, HEALTHY, Project, read_project, STARTED
 from metis_planner.importers.compose.next import NEXT, PROJECT, BothForms
@@ -140,6 +142,7 @@ class Plan:
         replaces_data: bool = False,
         is_all_awaited: bool = False,
         path: str = "",
+        is_rebound: bool = False,
     ) -> None:
         self.path = path if os.path.isabs(path) and path.isprintable() else ""  # of the first one, which other words may look for
         self.deployments = [
@@ -155,7 +158,7 @@ class Plan:
         self.types = [Writer(deployment, self.names).types() for deployment in self.deployments]
         for types in self.types:
             check_limits(types)
-        self.both = BothForms(self.types[0], self.types[1], self.names) if len(projects) > 1 else None
+        self.both = BothForms(self.types[0], self.types[1], self.names, is_rebound) if len(projects) > 1 else None
 
     def keep_data(self) -> list[str]:
         """What holds data in a project that another one follows: it is given, so that no plan takes it away."""
@@ -241,11 +244,18 @@ def add_arguments(parser: argparse.ArgumentParser) -> None:
         action="store_true",
         help="with --next: volumes, and services that write to these or to folders of the host, are taken as all else",
     )
+    help_text = "with --next: what waits for a changed service stays; the wishes of that, for `metis up --wishes`, are written here"
+    parser.add_argument("--rebind", metavar="FILE", help=help_text)
     parser.add_argument("--wait", action="store_true", help="await each healthcheck, as `docker compose up --wait` does")
 
 
 def run(arguments: argparse.Namespace) -> Answer:
     paths = [arguments.file] + ([arguments.next] if arguments.next else [])
     projects = [read_project(path) for path in paths]
-    plan = Plan(projects, arguments.profile, arguments.given, arguments.replace_data, arguments.wait, paths[0])
+    if arguments.rebind and not arguments.next:
+        raise Refused("--rebind is for --next")
+    words = (arguments.profile, arguments.given, arguments.replace_data, arguments.wait, paths[0], bool(arguments.rebind))
+    plan = Plan(projects, *words)
+    if plan.both and arguments.rebind:
+        write_whole(pathlib.Path(arguments.rebind), plan.both.wishes())
     return Answer(plan.document(), list(dict.fromkeys(plan.notes())))

@@ -72,7 +72,7 @@ class BothForms:
 
     def wishes(self) -> str:
         """The wishes by which what is the same stays, and is bound to what has changed."""
-        avoided = sorted(self.renamed & self.standing.keys() - {PROJECT})
+        avoided = sorted(self.renamed & self.standing.keys())
         return "".join(f"{line}\n" for line in (HEAD, *(f"avoid {name}" for name in avoided), EVERYBODY, "end"))
 
     def next_of(self, name: str) -> str:
