@@ -129,6 +129,7 @@ def resumed(engine: Engine) -> None:
     trial.write(services)
     expect(trial.up().returncode == 1, "the migration has not failed")
     (trial.top / "flag/good").touch()
+    trial.said("make", "-s", "-j8", "-C", trial.folder)
     trial.is_up()
     expect(trial.rows() == 1, f"the migration ran {trial.rows()} times")
     trial.is_down()
@@ -173,7 +174,7 @@ def is_killed(trial: Trial, draw: random.Random) -> bool:
 
 def lost(engine: Engine) -> None:
     """What was stopped or removed by hand is said, and made again."""
-    trial = Trial(engine, "lost", project())
+    trial = Trial(engine, "lost", project(), is_elsewhere=True)
     trial.is_up()
     before = trial.containers()
     trial.run("docker", "rm", "-f", f"{trial.name}-web-1")

@@ -176,14 +176,19 @@ def project_of(name: str) -> Value:
 class Trial:
     """A project in a folder of its own."""
 
-    def __init__(self, engine: Engine, name: str, value: Value) -> None:
+    def __init__(self, engine: Engine, name: str, value: Value, is_elsewhere: bool = False) -> None:
         self.engine, self.name = engine, f"trial-{name}"
         self.top = engine.folder / "projects" / self.name
+        # Compose finds the file of the project from a folder within it, and not from elsewhere.
+        self.folder = engine.folder / "elsewhere" / self.name if is_elsewhere else self.top / ".metis"
+        self.words = ("--to", self.folder) if is_elsewhere else ()
+        shutil.rmtree(self.folder, ignore_errors=True)
         self.told: dict[str, str] = {}  # with what Compose is called, and Metis is not
         if self.top.is_dir():
             self.run("docker", "compose", "-p", self.name, "down", "-v", "-t", "1", "--remove-orphans")
         shutil.rmtree(self.top, ignore_errors=True)
         self.top.mkdir(parents=True)
+        self.folder.parent.mkdir(exist_ok=True)
         (self.top / "Dockerfile").write_text("FROM base:12\n")
         self.write(value)
 
@@ -199,7 +204,7 @@ class Trial:
         return done.stdout
 
     def up(self, *words: object, **more: str) -> "subprocess.CompletedProcess[str]":
-        return self.engine.run(self.engine.metis, "up", "compose.yaml", "--yes", *words, at=self.top, **more)
+        return self.engine.run(self.engine.metis, "up", "compose.yaml", "--yes", *self.words, *words, at=self.top, **more)
 
     def is_up(self, *words: object, **more: str) -> str:
         """What `up` says, when it has brought the project to what the file says."""
@@ -235,7 +240,7 @@ class Trial:
         told = json.loads(self.said("docker", "compose", "config", "--format", "json"))["services"]
         faults = list(faults_in(self.found(), told, self.image_of))
         expect(not faults, f"{self.name}: not as the file says: {faults}")
-        verified = self.run(self.engine.metis, "verify", ".metis")
+        verified = self.run(self.engine.metis, "verify", self.folder)
         expect(verified.returncode == 0, f"{self.name}: verify says that something is lost: {verified.stdout}{verified.stderr}")
 
     def image_of(self, service: str, told: Value) -> str:
@@ -256,7 +261,7 @@ class Trial:
         return int(self.run(*words, "select count(*) from migrated").stdout.strip() or -1)
 
     def is_down(self) -> None:
-        done = self.run(self.engine.metis, "down", ".metis", "--yes")
+        done = self.run(self.engine.metis, "down", self.folder, "--yes")
         expect(done.returncode == 0, f"{self.name}: down: {done.stdout[-800:]}{done.stderr[-800:]}")
         for kind in ("container ls -a", "network ls", "volume ls"):
             left = self.run("docker", *kind.split(), "-q", "--filter", f"label={LABEL}.project={self.name}").stdout.split()
