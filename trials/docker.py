@@ -21,7 +21,7 @@ import time
 from collections.abc import Callable
 
 from trials import docker_adopt, docker_edits
-from trials.docker_engine import Engine, Trial, Value, changed
+from trials.docker_engine import Engine, Trial, Value, changed, project_of_readme
 from trials.trial import Failed, expect
 
 SEED, KILLS, ROUNDS = 11, 25, 3
@@ -70,6 +70,26 @@ def apart() -> Value:
         side={"image": "trial-app:1", "entrypoint": ["sleep", "100000"], "network_mode": "service:built"},
     )
     return found
+
+
+def readme(engine: Engine) -> None:
+    """README's project, by `up`, and by the commands that `make --skeleton` prints for it."""
+    trial = Trial(engine, "readme", project_of_readme())
+    trial.is_up()
+    expect(trial.rows() == 1, f"the migration ran {trial.rows()} times")
+    trial.compose_makes_nothing()
+    trial.is_down()
+    for name, words in (
+        ("u.json", ("import", "compose", trial.top / "compose.yaml")),
+        ("plan.txt", ("plan", "u.json", "project:up")),
+        ("commands.toml", ("make", "--skeleton", "plan.txt", "--universe", "u.json")),
+    ):
+        (trial.top / name).write_text(trial.said(engine.metis, *words))
+    trial.said(engine.metis, "make", "plan.txt", "--universe", "u.json", "--commands", "commands.toml", "--to", trial.folder)
+    trial.said("make", "-s", "-j8", "-C", trial.folder)
+    trial.is_as_compose_has_it()
+    trial.compose_makes_nothing()
+    trial.said("docker", "compose", "down", "-v", "-t", "1")
 
 
 def edits(engine: Engine) -> None:
@@ -201,7 +221,7 @@ def replicas(engine: Engine) -> None:
 
 
 PARTS: dict[str, Callable[[Engine], None]] = {
-    **{each.__name__: each for each in (edits, mended, resumed, lost, replicas)},
+    **{each.__name__: each for each in (readme, edits, mended, resumed, lost, replicas)},
     **docker_adopt.PARTS,
     **docker_edits.PARTS,
     "killed": killed,

@@ -1,5 +1,6 @@
 """A Docker of a trial's own, with images that begin as real ones do, and Compose projects that Metis brings up by it."""
 
+import itertools
 import json
 import os
 import pathlib
@@ -136,6 +137,9 @@ class Engine:
         self.build("trial-pg", {"Dockerfile": PG, "entry.sh": PG_ENTRY})
         self.build("trial-app:1", {"Dockerfile": APP, "app.sh": APP_SH})
         self.build("trial-app:2", {"Dockerfile": APP + "ENV VERSION=2\n", "app.sh": APP_SH})
+        self.build("shop", {"Dockerfile": 'FROM trial-app:1\nCMD ["web"]\n'})
+        self.build("shop-migrate", {"Dockerfile": 'FROM trial-app:1\nCMD ["migrate"]\n'})
+        self.tag("trial-pg", "postgres:16")
         self.build("trial-redis", {"Dockerfile": REDIS})
         self.build("trial-nginx", {"Dockerfile": NGINX})
 
@@ -171,6 +175,14 @@ def project_of(name: str) -> Value:
     """A project of those beside this file."""
     value: Value = yaml.safe_load((PROJECTS / f"{name}.yaml").read_text())
     return {key: each for key, each in value.items() if not key.startswith("x-")}
+
+
+def project_of_readme() -> Value:
+    """The first project that README shows."""
+    lines = (TOP / "README.md").read_text().splitlines()
+    begin = lines.index("    services:")
+    value: Value = yaml.safe_load("\n".join(itertools.takewhile(str.strip, lines[begin:])))
+    return value
 
 
 class Trial:
