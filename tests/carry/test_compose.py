@@ -392,10 +392,11 @@ class ReboundTest(FolderCase):
         wishes = self.top / "w.txt"
         self.rolled("--rebind", wishes)
         self.up("project:up", "--yes")
-        shown = self.up("project@next:up", "--wishes", wishes, "--dry-run")
+        shown = self.up("project:up", "--wishes", wishes, "--dry-run")
         self.assertRegex(shown, r"kept     proxy#\d+")
         self.assertRegex(shown, r"proxy#\d+ takes api/started from api@next#\d+")
         self.assertEqual(len(set(re.findall(r"going    (api#\d+)", shown))), 2)
+        self.assertEqual(len(re.findall(r"new      api@next#", shown)), 2)
         self.assertNotIn("proxy@next", shown)
 
     def test_without_it_the_proxy_is_made_anew(self):

@@ -177,7 +177,7 @@ class Plan:
             for each in self.deployments
         )
         standing = f", where {', '.join(self.given)} stands" if self.given else ""
-        targets = f"{PROJECT}:up" + (f" or {PROJECT}{NEXT}:up" if self.both else "")
+        targets = f"{PROJECT}:up" + (f" or {PROJECT}{NEXT}:up" if self.both and PROJECT in self.both.renamed else "")
         origin = f" from {self.path}" if self.path else ""
         return f"{named}{standing}, by importers compose{origin}; target: {targets}"
 

@@ -36,8 +36,8 @@ class BothForms:
             for state in each.states:
                 for port in state.require:
                     requiring.setdefault(port, []).append(each)
-        renamed = {PROJECT}
-        work = [each for each in self.second if each.name == PROJECT or self.is_other(each)]
+        renamed = set() if self.is_rebound else {PROJECT}
+        work = [each for each in self.second if each.name in renamed or self.is_other(each)]
         while work:
             component = work.pop()
             renamed.add(component.name)
