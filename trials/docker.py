@@ -14,6 +14,7 @@ import argparse
 import os
 import pathlib
 import random
+import shutil
 import signal
 import subprocess
 import sys
@@ -79,6 +80,7 @@ def readme(engine: Engine) -> None:
     expect(trial.rows() == 1, f"the migration ran {trial.rows()} times")
     trial.compose_makes_nothing()
     trial.is_down()
+    shutil.rmtree(trial.folder)
     for name, words in (
         ("u.json", ("import", "compose", trial.top / "compose.yaml")),
         ("plan.txt", ("plan", "u.json", "project:up")),

@@ -1,5 +1,6 @@
 """Edits of Compose projects, each by one `metis up`: what is concerned is made anew, and nothing else."""
 
+import json
 from collections.abc import Callable, Sequence
 from typing import Any, NamedTuple
 
@@ -284,4 +285,41 @@ def spaces(engine: Engine) -> None:
     trial.is_down()
 
 
-PARTS: dict[str, Callable[[Engine], None]] = {each.__name__: each for each in (tiers, shop, names, spaces)}
+# nginx looks names up again where it is told to.
+RELOADED = """
+[[step]]
+when = "proxy: bind api/healthy"
+run = '''
+eval "$FUNCTIONS"
+for id in $(ids "$METIS_NAME"); do
+  case $(state "$id") in 'running '*) docker kill -s HUP "$id" >/dev/null ;; esac
+done
+'''
+"""
+
+
+def rollout(engine: Engine) -> None:
+    """The next form of an interface, to which a proxy that has a port of the host is bound anew."""
+    value = project_of("shop")
+    trial = Trial(engine, "rollout", value)
+    one, two = trial.top / "compose.yaml", trial.top / "two.yaml"
+    put(value, {"services.api.image": "trial-app:2"})
+    two.write_text(json.dumps({"name": trial.name, **value}))
+    words = ("import", "compose", one, "--next", two, "--replace-data", "--rebind", "w.txt")
+    (trial.top / "u.json").write_text(trial.said(engine.metis, *words))
+    (trial.top / "plan.txt").write_text(trial.said(engine.metis, "plan", "u.json", "project:up"))
+    head, mark, steps = trial.said(engine.metis, "make", "--skeleton", "plan.txt", "--universe", "u.json").partition("[[step]]")
+    (trial.top / "k.toml").write_text(head + RELOADED.lstrip() + "\n" + mark + steps)
+    up = (engine.metis, "up", "u.json", "project:up", "--commands", "k.toml", "--to", trial.folder, "--yes")
+    trial.said(*up)
+    before = trial.containers()
+    one.write_text(two.read_text())
+    trial.said(*up, "--wishes", "w.txt", "--delete", "all")
+    found = {key.rpartition("-")[0] for key in changed(before, trial.containers())}
+    expect(found == {"api"}, f"a rollout: {sorted(found)} changed")
+    answers(engine, 8082, "of version 2")
+    trial.is_as_compose_has_it()
+    trial.said("docker", "compose", "down", "-v", "-t", "1")
+
+
+PARTS: dict[str, Callable[[Engine], None]] = {each.__name__: each for each in (tiers, shop, names, spaces, rollout)}

@@ -196,8 +196,12 @@ class Trial:
         self.words = ("--to", self.folder) if is_elsewhere else ()
         shutil.rmtree(self.folder, ignore_errors=True)
         self.told: dict[str, str] = {}  # with what Compose is called, and Metis is not
-        if self.top.is_dir():
+        self.top.mkdir(parents=True, exist_ok=True)
+        if any(self.top.iterdir()):
             self.run("docker", "compose", "-p", self.name, "down", "-v", "-t", "1", "--remove-orphans")
+        built = self.run("docker", "images", "--format", "{{.Repository}}:{{.Tag}}", "--filter", f"reference={self.name}-*").stdout.split()
+        if built:
+            self.run("docker", "image", "rm", "--force", *built)
         shutil.rmtree(self.top, ignore_errors=True)
         self.top.mkdir(parents=True)
         self.folder.parent.mkdir(exist_ok=True)
