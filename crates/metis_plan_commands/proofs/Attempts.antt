@@ -4,6 +4,7 @@ use Rattle.std.specs.Prelude.{IsTrue}
 use Rattle.metis_ids.specs.declared.actions.Action.{Action}
 use Rattle.metis_ids.specs.declared.goals.Goal.{Goal}
 use Rattle.metis_plan_commands.specs.Terms.{IsSound, Reconfigures, plan_of, plan_text}
+use Rattle.metis_plan_commands.proofs.Formed.{reconfiguration_formed}
 use Rattle.metis_reconfigure.specs.Terms.{IsAnswerable, IsAnswered, Reconfiguration, reconfigured}
 use Rattle.metis_universe.specs.Terms.{AttainsGoals, IsSteadfastRun, IsUniverse, Universe, is_steadfast}
 use Rattle.metis_wishes.specs.declared.wish.Wish.{Wish}
@@ -30,4 +31,11 @@ module _ (u : Universe) (wishes : List Wish) (old : List Action) (goals : List G
   pub given_told : AttainsGoals u goals → Reconfigures u goals old wishes (plan_text u (plan_of xs))
   given_told attains =
       subst (λ xs. Reconfigures u goals old wishes (plan_text u (plan_of xs))) (sym given.same)
-      (record { attains = attains; course = given.course; answered = given.answered; sound = given.sound; told = refl })
+      (record {
+        attains = attains;
+        course = given.course;
+        answered = given.answered;
+        sound = given.sound;
+        formed = λ table numbered few. reconfiguration_formed u table wishes old goals given.course given.answered numbered.numbers numbered.named numbered.short few;
+        told = refl;
+      })

@@ -1,4 +1,5 @@
 pub mod Attempts
+pub mod Formed
 pub mod LoadLines
 pub mod MadePlans
 pub mod ObstacleLines

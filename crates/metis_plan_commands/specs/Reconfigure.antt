@@ -11,13 +11,14 @@
 --     IsAttempted u goals old wishes made      the same from a steadfast run, or what keeps the actions from being one
 --     PutsReconfiguration u goals old wishes lines status      the actions are a steadfast run, and the lines are those of the reconfiguration, or of the first obstacle, where some actions attain the goals, and else of a refusal
 --     Reconfigured u goals old wishes lines status      that, or the one line is that of the first action that cannot be done, or of the first that is not steadfast
-use Rattle.std.specs.Prelude.{◌≡◌, ◌⊎◌, ◌↔◌, ◌<◌, ℕ, List, [], ◌∷◌, ◌++◌, codes, decimal, length, Result, Ok, Err, None, IsSome, IsTrue, ⊤}
+use Rattle.std.specs.Prelude.{◌≡◌, ◌⊎◌, ◌↔◌, ◌<◌, ℕ, List, [], ◌∷◌, ◌++◌, codes, decimal, length, Result, Ok, Err, None, IsSome, IsTrue, ⊤, ◌≤◌, ◌^◌}
 use Rattle.std.specs.List.{All}
 use Rattle.metis_ids.specs.declared.actions.Action.{Action}
 use Rattle.metis_ids.specs.declared.goals.Goal.{Goal}
 use Rattle.metis_output.specs.declared.status.Status.{Status}
 use Rattle.metis_output.specs.declared.status.Status.TheVariants.{Done, No}
-use Rattle.metis_plan_commands.specs.Plan.{Refuses, plan_of, plan_text}
+use Rattle.metis_plan_commands.specs.Old.{IsNumbered}
+use Rattle.metis_plan_commands.specs.Plan.{Refuses, others, plan_of, plan_text}
 use Rattle.metis_plan_commands.specs.Planned.{IsPrintable, TellsPlanned}
 use Rattle.metis_plan_commands.specs.declared.planned.Planned.TheVariants as planned
 use Rattle.metis_plan_commands.specs.declared.reconfigure.Attempt.{Attempt}
@@ -29,8 +30,9 @@ use Rattle.metis_rollout.specs.Terms.{HasEach, IsGuardedAt, IsWithout, KeepsStan
 use Rattle.metis_output.specs.Terms.{number_line}
 use Rattle.metis_steady.specs.Terms.{HasBadAction, HasLooseAction, IsUnsteady}
 use Rattle.metis_steady.specs.declared.steady.Unsteady.{Unsteady}
-use Rattle.metis_text.specs.Terms.{refusal_lines}
-use Rattle.metis_universe.specs.Terms.{AttainsGoals, HoldsGoals, IsGoalOf, IsKept, IsSteadfastRun, Universe, goal_word, has, is_complete, pair_of, picked, port_count, port_name_of}
+use Rattle.metis_text.specs.Terms.{IsWellFormed, refusal_lines}
+use Rattle.metis_universe.specs.Terms.{AttainsGoals, HoldsGoals, IsGoalOf, IsKept, IsSteadfastRun, IsTable, Universe, goal_word, has, is_complete, pair_of, picked, port_count, port_name_of}
+use Rattle.metis_wishes.specs.Terms.{rebound}
 use Rattle.metis_wishes.specs.declared.wish.Wish.{Wish}
 
 -- ---- the reconfiguration
@@ -75,11 +77,13 @@ pub record IsSound {u : Universe} {wishes : List Wish} {old : List Action} {goal
   pub never_lacks : NeverLacksEither r
   pub goes_on : GoesOnToTheEnd r
 
+-- where the old actions were read, what is printed is well formed, so that it is read again
 pub record Reconfigures (u : Universe) (goals : List Goal) (old : List Action) (wishes : List Wish) (lines : List (List ℕ)) : Type 0 where
   pub attains : AttainsGoals u goals
   pub course : Reconfiguration u wishes old goals
   pub answered : IsAnswered u wishes old goals course
   pub sound : IsSound course
+  pub formed : IsTable u → IsNumbered u old → length (rebound wishes) ≤ 2 ^ 16 → IsWellFormed u (plan_of (reconfigured course)) (others (reconfigured course))
   pub told : lines ≡ plan_text u (plan_of (reconfigured course))
 
 -- ---- the first obstacle

@@ -14,14 +14,15 @@ use Rattle.metis_ids.specs.declared.actions.Action.{Action}
 use Rattle.metis_ids.specs.declared.goals.Goal.{Goal}
 use Rattle.metis_planner.specs.Terms.{IsByRounds}
 use Rattle.metis_rollout.specs.Terms.{GoesOnGuarded, NeverLacks, renumbered, rollout}
-use Rattle.metis_universe.specs.Terms.{Attains, AttainsGoals, Holds, HoldsGoals, IsSteadfastRun, Universe, after_all, empty}
+use Rattle.metis_universe.specs.Terms.{Attains, AttainsGoals, Holds, HoldsGoals, IsSteadfastRun, IsTable, Universe, after_all, empty}
 use Rattle.metis_steady.specs.Terms.{HasBadAction, HasLooseAction, IsUnsteady}
 use Rattle.metis_steady.specs.declared.steady.Unsteady.{Unsteady}
-use Rattle.metis_text.specs.Terms.{refusal_lines}
+use Rattle.metis_text.specs.Terms.{IsWellFormed, refusal_lines}
 use Rattle.metis_plan_commands.specs.declared.planned.Planned.{Planned}
 use Rattle.metis_plan_commands.specs.declared.planned.Planned.TheVariants as planned
 use Rattle.metis_plan_commands.specs.declared.planned.Planned.TheVariants.{Refusal}
-use Rattle.metis_plan_commands.specs.Plan.{Refuses, plan_of, plan_text}
+use Rattle.metis_plan_commands.specs.Old.{IsNumbered}
+use Rattle.metis_plan_commands.specs.Plan.{Refuses, others, plan_of, plan_text}
 use Rattle.metis_output.specs.declared.status.Status.{Status}
 use Rattle.metis_output.specs.declared.status.Status.TheVariants.{Done, No}
 
@@ -34,7 +35,7 @@ rollout_text u old fresh = plan_text u (rollout_plan u old fresh)
 -- It is a steadfast run too, and ends in exactly what the fresh plan leaves, under its new numbers, and so with every one of the pairs. For
 -- no pairs nothing is left. Carried out in an order that keeps the waits, and takes nothing away before all that is new stands, it never
 -- lacks both what was and what is to be. The waits alone do not say so: each order of the old actions goes on to a guarded one, and to
--- others.
+-- others. Where the old actions were read, what is printed is well formed, so that it is read again.
 pub record RollsOutPairs (u : Universe) (old : List Action) (g : List ℕ) (lines : List (List ℕ)) : Type 0 where
   pub attains : Attains u g
   pub fresh : Plan
@@ -45,6 +46,7 @@ pub record RollsOutPairs (u : Universe) (old : List Action) (g : List ℕ) (line
   pub none : g ≡ [] → after_all u empty (rollout u old fresh.actions) ≡ empty
   pub never_lacks : NeverLacks u old fresh.actions
   pub goes_on : GoesOnGuarded u old fresh.actions
+  pub formed : IsTable u → IsNumbered u old → IsWellFormed u (rollout_plan u old fresh.actions) (others (rollout u old fresh.actions))
   pub told : lines ≡ rollout_text u old fresh.actions
 
 -- what is made for pairs is such a rollout

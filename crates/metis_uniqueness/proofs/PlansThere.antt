@@ -25,6 +25,7 @@ use Rattle.metis_planner.proofs.Unique.{none_doubled}
 use Rattle.metis_planner.specs.Terms.{IsByRounds, IsPlanFor}
 use Rattle.metis_plan_commands.proofs.PlanAnswers.{answer_by_plan, answer_by_refusal, answer_for_goals}
 use Rattle.metis_plan_commands.specs.Terms.{PlanAnswer, PlansPairs, PutsRollout, Refuses, RolledOut, RollsOutPairs, plan_text, rollout_text}
+use Rattle.metis_plan_commands.proofs.Formed.{rollout_formed}
 use Rattle.metis_rollout.proofs.Guarding.{goes_on}
 use Rattle.metis_rollout.proofs.Rolling.{never_lack}
 use Rattle.metis_rollout.proofs.Whole.{replaced, taken_apart}
@@ -150,6 +151,7 @@ module _ (u : Universe) (table : IsTable u) where
             none = λ is. subst (λ (xs : List Action). after_all u empty (rollout u old xs) ≡ empty) (sym (empty_for_none u plan.0 (subst (λ (h : List ℕ). IsByRounds u h plan.0) is plan.1)).0) (taken_apart u old table.universe run).1;
             never_lacks = λ front later kept guarded all. never_lack u table.universe old fresh run known.run front later kept guarded all;
             goes_on = goes_on_guarded fresh;
+            formed = λ _ numbered. rollout_formed u table old run numbered.numbers numbered.named numbered.short g plan.0 known;
             told = refl;
           },
         )

@@ -3,6 +3,7 @@ use Rattle.std.specs.Prelude.{IfOk}
 use Rattle.metis_ids.specs.Terms.{Plan}
 use Rattle.metis_plan_commands.specs.Terms.{IsOfPlan, RollsOutPairs, plan_of, plan_text, rollout_plan}
 use Rattle.metis_planner.specs.Terms.{IsByRounds}
+use Rattle.metis_plan_commands.proofs.Formed.{rollout_formed}
 use Rattle.metis_plan_commands.proofs.MadePlans.{rolled_by}
 use Rattle.metis_rollout.specs.Terms.{rollout}
 use Rattle.metis_universe.specs.Terms.{IsSteadfastRun, after_all, empty}
@@ -20,7 +21,7 @@ returns-clause-rolls c =
     (c.teardown_leaves_nothing.ensures u old c.keeps_invariant.ensures.universe c.requires.old.steady).1 in
     let never_lacks = c.guarded_rollout_never_lacks.ensures.configurations u old fresh.actions c.keeps_invariant.ensures.universe c.requires.old.steady steady in
     let done = c.rollout_replaces.ensures u old fresh.actions c.keeps_invariant.ensures.universe c.requires.old.steady steady in
-    let rolls : RollsOutPairs u old c.args.pairs.now (plan_text u (rollout_plan u old fresh.actions)) = record { attains = c.requires.attained; fresh = fresh; rounds = found.rounds; steady = done.0; ends = done.1; holds = done.2 c.args.pairs.now found.holds; none = none; never_lacks = never_lacks; goes_on = c.guarded_rollout_goes_on.ensures u old fresh.actions; told = refl } in
+    let rolls : RollsOutPairs u old c.args.pairs.now (plan_text u (rollout_plan u old fresh.actions)) = record { attains = c.requires.attained; fresh = fresh; rounds = found.rounds; steady = done.0; ends = done.1; holds = done.2 c.args.pairs.now found.holds; none = none; never_lacks = never_lacks; goes_on = c.guarded_rollout_goes_on.ensures u old fresh.actions; formed = λ table numbered. rollout_formed u table old c.requires.old.steady numbered.numbers numbered.named numbered.short c.args.pairs.now fresh found; told = refl } in
     let shown : c.deref.result.now ≡ fresh.actions = c.deref.ensures.value ∙ ap (λ (p : Plan). p.actions) c.fresh.view_is in
     let actions = c.in_ok-actions.ensures.list ∙ ap (rollout u old) shown in
     rolled_by u old c.args.pairs.now (rollout_plan u old fresh.actions) c.with_no_dups.result rolls
