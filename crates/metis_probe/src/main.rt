@@ -13,6 +13,7 @@ mod lists;
 mod names;
 mod outputs;
 mod plan_texts;
+mod plans;
 mod probe;
 mod reasons;
 mod refusal_texts;

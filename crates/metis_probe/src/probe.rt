@@ -2,6 +2,7 @@
 use crate::graphs::write_sorting;
 use crate::layers::write_layers;
 use crate::names::write_names;
+use crate::plans::write_plan;
 use crate::reasons::{write_reason_count, write_reasons};
 use crate::rounds::{write_counts, write_rounds};
 use crate::stop::Stop;
@@ -67,6 +68,7 @@ enum Kind {
     ReasonCount,
     Rounds,
     Counts,
+    Plan,
     Call(Writer),
 }
 
@@ -80,6 +82,7 @@ fn kind_of(verb: &str) -> Option<Kind> {
         "count-why" => Some(Kind::ReasonCount),
         "rounds" => Some(Kind::Rounds),
         "graph" => Some(Kind::Counts),
+        "plan" => Some(Kind::Plan),
         _ => writer_of(verb).map(Kind::Call),
     }
 }
@@ -101,6 +104,7 @@ fn write_kind<R: Files + AllocGlobal>(
         Kind::ReasonCount => write_reason_count(alloc, text, u, first_of(rest)?),
         Kind::Rounds => write_rounds(alloc, text, u, rest),
         Kind::Counts => write_counts(alloc, text, u, rest),
+        Kind::Plan => write_plan(alloc, text, u, rest),
         Kind::Call(writer) => write_call(rt, text, u, writer, rest),
     }
 }

@@ -19,3 +19,4 @@ mod Scripts
 mod Staying
 mod Unsteady
 mod WavesThere
+pub mod ReconfiguresThere

@@ -99,13 +99,13 @@ module _ (u : Universe) (table : IsTable u) where
   -- ---- what goals come to
 
   -- the pairs for goals that some actions attain
-  record AreAimed (goals : List Goal) (pairs : List ℕ) : Type 0 where
-    resolved : ArePairsFor u goals pairs
-    small : length pairs ≤ 256
-    attained : Attains u pairs
+  pub record AreAimed (goals : List Goal) (pairs : List ℕ) : Type 0 where
+    pub resolved : ArePairsFor u goals pairs
+    pub small : length pairs ≤ 256
+    pub attained : Attains u pairs
 
   -- goals have such pairs, or are refused
-  aims : (goals : List Goal) → length goals ≤ 256 → ((pairs : List ℕ) × AreAimed goals pairs) ⊎ ((lines : List (List ℕ)) × Refuses u goals lines)
+  pub aims : (goals : List Goal) → length goals ≤ 256 → ((pairs : List ℕ) × AreAimed goals pairs) ⊎ ((lines : List (List ℕ)) × Refuses u goals lines)
   aims goals few = by (find (lacks u (attained_pairs u)) goals) refl where
     by : (o : Option Goal) → find (lacks u (attained_pairs u)) goals ≡ o → ((pairs : List ℕ) × AreAimed goals pairs) ⊎ ((lines : List (List ℕ)) × Refuses u goals lines)
     by None is =

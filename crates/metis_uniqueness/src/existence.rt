@@ -1,4 +1,4 @@
-//! Laws of what a run says: over a universe, for what is read of it, there is an answer. Of reconfigurations none says so.
+//! Laws of what a run says: over a universe, for what is read of it, there is an answer.
 ghost use Rattle.std.specs.Prelude.{◌≤◌, ℕ, List, length};
 ghost use Rattle.std.specs.List.{All};
 ghost use Rattle.std.specs.List.Sorted.{IsStrictlyIncreasing};
@@ -7,10 +7,11 @@ ghost use Rattle.metis_ids.specs.declared.actions.Action.{Action};
 ghost use Rattle.metis_ids.specs.declared.goals.Goal.{Goal};
 ghost use Rattle.metis_ids.specs.Terms.{Plan};
 ghost use Rattle.metis_place.specs.Terms.{HostLists};
-ghost use Rattle.metis_plan_commands.specs.Terms.{Loaded, PlanAnswer, RolledOut};
+ghost use Rattle.metis_plan_commands.specs.Terms.{Loaded, PlanAnswer, Reconfigured, RolledOut};
 ghost use Rattle.metis_text.specs.Terms.{IsWellFormed};
 ghost use Rattle.metis_universe.specs.Terms.{IsGoalOf, IsTable, IsUniverse, Universe};
 ghost use Rattle.metis_why.specs.declared.reason.Line.{Line};
+ghost use Rattle.metis_wishes.specs.declared.wish.Wish.{Wish};
 ghost use Rattle.metis_uniqueness.specs.Terms.{HasAnAnswer, HasAnAnswerOver};
 
 /// At most 256 targets in a universe have a plan, or a refusal.
@@ -64,6 +65,12 @@ pub fn a_control_has_an_answer()
 /// action that keeps the old ones from being a steadfast run.
 pub fn a_rollout_has_an_answer()
     ensures { (u : Universe) (goals : List Goal) (old : List Action) → IsTable u → length goals ≤ 256 → HasAnAnswerOver u old (RolledOut u goals old) }
+{}
+
+/// From actions that name what is the universe's to at most 256 targets there is, by any wishes, a reconfiguration, or the first obstacle
+/// to one, or a refusal of the targets, or a first action that keeps the old ones from being a steadfast run.
+pub fn a_reconfiguration_has_an_answer()
+    ensures { (u : Universe) (goals : List Goal) (old : List Action) (wishes : List Wish) → IsTable u → length goals ≤ 256 → HasAnAnswerOver u old (Reconfigured u goals old wishes) }
 {}
 
 /// On any hosts the instances of such actions have a placement, or there is a first one without room, or there is such a first action.
