@@ -2,9 +2,8 @@
 --     Alike xs x ys y      x and y are the same item, and so is what stands before them
 --     Among xs x ys      x, behind xs, is among the items ys
 --     Parted xs x ys y      x and y are alike, or one of them is among what stands before the other
-use Rattle.std.proofs.Common.{◌≡◌, ◌⊎◌, ℕ, ◌<◌, Bool, true, false, cond, List, [], ◌∷◌, ◌++◌, Some, refl, sym, ap, ◌∙◌, arith, inl, inr}
+use Rattle.std.proofs.Common.{◌≡◌, ◌⊎◌, Bool, true, false, cond, List, [], ◌∷◌, ◌++◌, Some, refl, sym, ap, ◌∙◌, inl, inr}
 use Rattle.std.specs.List.{All, find}
-use Rattle.std.proofs.lemmas.Bool.{cases_lt}
 use Rattle.std.proofs.lemmas.List.Elements.{All-head, All-tail}
 
 pub record Alike {A : Type 0} (xs : List A) (x : A) (ys : List A) (y : A) : Type 0 where

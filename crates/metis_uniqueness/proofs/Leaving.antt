@@ -1,5 +1,5 @@
 -- What a reconfiguration comes to depends on what leaves only by its members.
-use Rattle.std.proofs.Common.{◌≡◌, ◌⊎◌, ℕ, ◌-◌, ◌<◌, false, not, ◌&&◌, List, [], ◌∷◌, ◌++◌, Some, IsSome, length, map, fold, max, replicate, take, if◌then◌else◌, nat_eq, nat_lt, flat_map, refl, sym, ap, ◌∙◌, subst}
+use Rattle.std.proofs.Common.{◌≡◌, ◌⊎◌, ℕ, ◌-◌, ◌<◌, false, not, ◌&&◌, List, [], ◌∷◌, ◌++◌, IsSome, length, map, fold, max, replicate, take, if◌then◌else◌, nat_eq, nat_lt, flat_map, refl, sym, ap, ◌∙◌, subst}
 use Rattle.std.specs.List.{count_by, filter, filter_map, find, range_with_len}
 use Rattle.std.specs.Option.{option_map_or}
 use Rattle.metis_ids.specs.declared.actions.Action.TheVariants.{Bind}

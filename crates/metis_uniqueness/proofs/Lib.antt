@@ -20,3 +20,4 @@ mod Staying
 mod Unsteady
 mod WavesThere
 pub mod ReconfiguresThere
+pub mod Scripted

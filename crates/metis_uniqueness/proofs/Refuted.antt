@@ -1,6 +1,6 @@
 -- The verdict that is true of a set of pairs as a refusal is one.
 use Rattle.std.proofs.lemmas.Option.{same_Some}
-use Rattle.std.proofs.Common.{◌≡◌, ◌⊎◌, ℕ, ◌<◌, ◌≤◌, List, Some, refl, sym, ap, ◌∙◌, arith, inl, inr}
+use Rattle.std.proofs.Common.{◌≡◌, ◌⊎◌, ℕ, ◌<◌, ◌≤◌, List, refl, sym, ap, ◌∙◌, arith, inl, inr}
 use Rattle.std.proofs.lemmas.Bool.{both_ways}
 use Rattle.metis_ids.specs.declared.goals.Goal.{Goal}
 use Rattle.metis_refusal.specs.Terms.{HasFree, IsLeastUnfree, IsLeastWayOut, Tells}

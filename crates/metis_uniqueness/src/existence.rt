@@ -6,9 +6,11 @@ ghost use Rattle.metis_commands.specs.Terms.{Audited, Awaited, Confirms, Control
 ghost use Rattle.metis_ids.specs.declared.actions.Action.{Action};
 ghost use Rattle.metis_ids.specs.declared.goals.Goal.{Goal};
 ghost use Rattle.metis_ids.specs.Terms.{Plan};
+ghost use Rattle.metis_inputs.specs.Terms.{script_of};
 ghost use Rattle.metis_place.specs.Terms.{HostLists};
 ghost use Rattle.metis_plan_commands.specs.Terms.{Loaded, PlanAnswer, Reconfigured, RolledOut};
 ghost use Rattle.metis_text.specs.Terms.{IsWellFormed};
+ghost use Rattle.metis_top.specs.Terms.{Says, over};
 ghost use Rattle.metis_universe.specs.Terms.{IsGoalOf, IsTable, IsUniverse, Universe};
 ghost use Rattle.metis_why.specs.declared.reason.Line.{Line};
 ghost use Rattle.metis_wishes.specs.declared.wish.Wish.{Wish};
@@ -96,4 +98,9 @@ pub fn an_explanation_has_an_answer()
 /// Any explanation has a verdict.
 pub fn a_confirmation_has_an_answer()
     ensures { (u : Universe) (goals : List Goal) (why : List Line) → IsUniverse u → HasAnAnswer (Confirms u goals why) }
+{}
+
+/// For any words and any contents of the files there is a list of lines, with a status, that is what a run is to say.
+pub fn each_script_has_an_answer()
+    ensures { (file : List ℕ → List ℕ) (words : List (List ℕ)) → HasAnAnswer (Says (over file (script_of words))) }
 {}
