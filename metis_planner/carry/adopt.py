@@ -32,7 +32,8 @@ from metis_planner.carry.compose import COMMANDS, CONTAINERS, FOLDER, TARGET, Co
 from metis_planner.carry.configuration import configured, is_of
 from metis_planner.carry.exporting import exported
 from metis_planner.carry.finding import MOST_LOOKED_FOR, UNKNOWN, YES, Said, Search, all_numbers, front, verdicts
-from metis_planner.carry.folder import DONE, JOBS, Folder, written
+from metis_planner.carry.folder import DONE, Folder, written
+from metis_planner.carry.jobs import job_lines_in
 from metis_planner.carry.judging import Judge
 from metis_planner.carry.request import Request
 from metis_planner.carry.stands import types_of
@@ -263,7 +264,7 @@ def adopt(call: Call, trial: Trial, done: set[str]) -> None:
 def mark(folder: Folder, steps: Sequence[Step], done: set[str]) -> None:
     """Marks steps; what is waited for first, so that what is marked is a part of the plan at each moment."""
     now = time.strftime("%Y-%m-%dT%H:%M:%SZ", time.gmtime())
-    hosts = {line.split(" ")[0]: line.split(" ")[3] for line in read_text(str(folder.path / JOBS), plans.MOST_BYTES).splitlines()}
+    hosts = {job.key: job.host for job in job_lines_in(folder.path)}
     for step in steps:
         if step.key in done:
             fresh = folder.path / f".mark.{step.key}"

@@ -12,9 +12,10 @@ from metis_planner.carry import export, refresh
 from metis_planner.carry.agreeing import asked, check_protected
 from metis_planner.carry.ahead import UNIVERSE, answered, kept_request
 from metis_planner.carry.configuration import MOST_JOBS, add_folder, checked_jobs, configured, folder_of, is_of
-from metis_planner.carry.exporting import PLACED, carried_out, export_words, exported, kept_commands
+from metis_planner.carry.engines import DEFAULT, ENGINES
+from metis_planner.carry.exporting import PLACED, carried_out, export_request, exported, kept_commands
 from metis_planner.carry.folder import PLAN, Folder, part_of, written
-from metis_planner.carry.request import DEFAULT_JOBS, ENGINES, Request, protected
+from metis_planner.carry.request import DEFAULT_JOBS, Request, protected
 from metis_planner.carry.seating import kept_placement
 from metis_planner.carry.steps import Step, who
 from metis_planner.carry.telling import shown
@@ -37,7 +38,7 @@ def request_of(folder: Folder, arguments: argparse.Namespace) -> Request:
     commands, kept = arguments.commands or kept_commands(folder), kept_request(folder)
     if not pathlib.Path(universe).is_file() or not commands:
         raise Refused(f"{folder.path}: it was not written by `metis up`: name the universe by --universe, and --commands")
-    engine = arguments.engine or (kept["engine"] if kept.get("engine") in ENGINES else "make")
+    engine = arguments.engine or (kept["engine"] if kept.get("engine") in ENGINES else DEFAULT)
     jobs = checked_jobs(arguments.jobs, "-j") or kept_jobs(kept)
     return Request(universe, (), commands, str(folder.path), engine=str(engine), jobs=jobs)
 
@@ -83,7 +84,7 @@ def run(arguments: argparse.Namespace) -> Answer:
         (texts / PLACED).write_text(placement or "")
         words = (texts / PLAN, texts / UNIVERSE, texts / PLACED if placement else None)
         # What no step fits is said before anybody is asked.
-        export.handed_in(export_words(request, *words))
+        export.handed_in(export_request(request, *words))
         print("".join(f"{line}\n" for line in shown(plans.Plan(plan.actions[len(done) :], ()))), end="", flush=True)
         if not asked(f"Take all of this away, with its data, in {folder.path}?", arguments.yes):
             return Answer("", ("nothing was done",), 1)

@@ -12,8 +12,10 @@ from typing import assert_never
 from metis_planner.answers import Answer, Refused
 from metis_planner.carry import skeleton
 from metis_planner.carry.commands import Commands, Rule, read_commands
+from metis_planner.carry.engines import Engine
 from metis_planner.carry.folder import STALE, Folder, written
-from metis_planner.carry.origin import BasePlan, origin_of_new, origin_there
+from metis_planner.carry.jobs import JobLine
+from metis_planner.carry.origin import BasePlan, Ground, origin_of_new, origin_there
 from metis_planner.carry.patterns import subject
 from metis_planner.carry.placement import held, read_placement
 from metis_planner.carry.possible import PossibleActions
@@ -64,17 +66,47 @@ def add_arguments(parser: argparse.ArgumentParser) -> None:
     )
     help_text = "take steps that fit nothing, and actions without a step, which are only marked as done"
     parser.add_argument("--lax", action="store_true", help=help_text)
+
+
+@dataclasses.dataclass(frozen=True, kw_only=True)
+class ExportRequest(Ground):
+    """What is to be written into a folder: a plan, its commands, and the files that say more of it."""
+
+    commands: str
+    universe: str | None = None
+    placement: str | None = None
+    is_lax: bool = False
     # Whether `up` calls: it has looked at the commands, which may be for what is gone too, and at what of the plan is done.
-    parser.set_defaults(is_up=False, noted=nothing)
+    is_up: bool = False
+
+    @classmethod
+    def from_arguments(cls, arguments: argparse.Namespace) -> "ExportRequest":
+        if not arguments.commands or not arguments.to:
+            raise Refused("--commands FILE and --to FOLDER are wanted; --skeleton prints a commands file to begin with")
+        return cls(
+            plan=arguments.plan,
+            to=arguments.to,
+            olds=tuple(arguments.olds),
+            is_alone=arguments.waits_alone,
+            commands=arguments.commands,
+            universe=arguments.universe,
+            placement=arguments.placement,
+            is_lax=arguments.lax,
+        )
 
 
 @dataclasses.dataclass(frozen=True)
 class Job:
-    """A step with its rule, if that does something, and the words by which `run` is called."""
+    """A step with its rule, if that does something, and its line in the file `jobs`."""
 
     step: Step
     rule: Rule | None
-    words: str = ""
+    line: JobLine
+
+    @property
+    def words(self) -> str:
+        """By which `run` is called."""
+        return str(self.line)
 
 
 @dataclasses.dataclass(frozen=True)
@@ -114,95 +146,108 @@ class Export:
 
     def jobs(self) -> Iterator[Job]:
         """The steps in the order of the plan."""
-        for step, rule in zip(self.steps, self.rules):
-            job = Job(step, None if rule is None or rule.does_nothing else rule)
-            yield dataclasses.replace(job, words=self.words(job))
+        for step, each in zip(self.steps, self.rules):
+            rule = None if each is None or each.does_nothing else each
+            yield Job(step, rule, self.line_of(step, rule))
 
-    def words(self, job: Job) -> str:
-        step, action = job.step, job.step.action
-        number = str(job.rule.number) if job.rule else WITHOUT_A_RULE
-        given = [step.key, number, str(action.number), self.host(action.instance)]
-        given += [action.verb, str(action.instance), action.type]
-        match action:
+    def line_of(self, step: Step, rule: Rule | None) -> JobLine:
+        action = step.action
+        return JobLine(
+            key=step.key,
+            rule=str(rule.number) if rule else WITHOUT_A_RULE,
+            action=str(action.number),
+            host=self.host(action.instance),
+            verb=action.verb,
+            instance=str(action.instance),
+            type=action.type,
+            more=self.more_of(step),
+            bound=tuple(map(self.as_named, step.bound)),
+        )
+
+    def more_of(self, step: Step) -> tuple[str, ...]:
+        """What an action has besides its instance, in words of `run`."""
+        match step.action:
             case New():
-                pass
+                return ()
             case Delete():
-                given.append(f"{NOTHING}{step.state}")
-            case Move():
-                given += [action.start, action.end]
-            case Bind() | Unbind():
-                given += [action.port, str(action.provider), action.provider_type, self.host(action.provider)]
+                return (f"{NOTHING}{step.state}",)
+            case Move(start=start, end=end):
+                return (start, end)
+            case Bind(port=port, provider=provider, provider_type=kind) | Unbind(port=port, provider=provider, provider_type=kind):
+                return (port, str(provider), kind, self.host(provider))
             case _:
-                assert_never(action)
-        return " ".join([*given, *map(self.as_named, step.bound)])
+                assert_never(step.action)
 
     def as_named(self, bound: Bound) -> str:
         """PORT=NAME, by the name under which the provider was made."""
         return f"{bound.port}={self.names.get(bound.instance, bound.name)}"
 
 
-def run(arguments: argparse.Namespace, name: str, text_of: Callable[[Export], Iterable[str]]) -> Answer:
-    """Writes the plan into its folder, with the file of this name that an engine reads; or prints commands for it."""
+def run(arguments: argparse.Namespace, engine: Engine) -> Answer:
+    """What the word of an engine answers: it writes a plan into its folder, or prints commands for it."""
     if arguments.skeleton:
-        return Answer(skeleton_for(arguments))
-    if not arguments.commands or not arguments.to:
-        raise Refused("--commands FILE and --to FOLDER are wanted; --skeleton prints a commands file to begin with")
-    folder = Folder(arguments.to)
-    handed, notes = handed_in(arguments)
+        return Answer(skeleton_for(arguments.plan, arguments.universe))
+    return Answer("", exported(ExportRequest.from_arguments(arguments), engine))
+
+
+def exported(request: ExportRequest, engine: Engine, noted: Callable[[], None] = nothing) -> list[str]:
+    """Writes the plan into its folder, with the file that the engine reads, and with what goes with it; what there is to say."""
+    folder = Folder(request.to)
+    handed, notes = handed_in(request)
     if folder.has_plan():
         folder.make()
         with folder.held():
-            origin = origin_there(folder, handed.plan, handed.steps, arguments)
+            origin = origin_there(folder, handed.plan, handed.steps, request)
             folder.check_hosts(handed.steps, handed.hosts)
-            write_folder(folder, *whole(handed, origin, text_of), name)
-            arguments.noted()
+            write_folder(folder, *whole(handed, origin, engine), engine.file)
+            noted()
     else:
         folder.check_empty()
-        origin = origin_of_new(handed.plan, handed.steps, arguments)
-        export, text = whole(handed, origin, text_of)
+        origin = origin_of_new(handed.plan, handed.steps, request)
+        export, text = whole(handed, origin, engine)
         with folder.made():
-            write_folder(folder, export, text, name)
-            arguments.noted()
-    return Answer("", [*origin.notes, *notes])
+            write_folder(folder, export, text, engine.file)
+            noted()
+    return [*origin.notes, *notes]
 
 
-def skeleton_for(arguments: argparse.Namespace) -> str:
+def skeleton_for(path: str, universe: str | None) -> str:
     """A commands file for the plan that the words name, and for all that may happen in its universe, if they name that."""
-    plan = plans.plan_at(arguments.plan)
-    if not arguments.universe:
+    plan = plans.plan_at(path)
+    if not universe:
         return skeleton.text_of(plan, PossibleActions())
-    document = document_at(arguments.universe)
-    possible = PossibleActions(types_in(document, arguments.universe))
+    document = document_at(universe)
+    possible = PossibleActions(types_in(document, universe))
     comment = json.loads(document).get("comment")
     return skeleton.text_of(plan, possible, comment if isinstance(comment, str) else "")
 
 
-def whole(handed: Export, origin: BasePlan, text_of: Callable[[Export], Iterable[str]]) -> tuple[Export, str]:
+def whole(handed: Export, origin: BasePlan, engine: Engine) -> tuple[Export, str]:
     """The export with its rollouts, and what an engine reads of it."""
     export = dataclasses.replace(handed, rollouts=origin.rollouts)
-    return export, "".join(text_of(export))
+    return export, "".join(engine.text_of(export))
 
 
-def handed_in(arguments: argparse.Namespace) -> tuple[Export, list[str]]:
-    """What the words name, before it is known what there is in the folder; and notes."""
-    plan = plans.plan_at(arguments.plan)
-    steps = steps_of(plan, arguments.plan)
-    commands = read_commands(arguments.commands)
-    placement = read_placement(arguments.placement, plan) if arguments.placement else Placement(plan, {}, {})
+def handed_in(request: ExportRequest) -> tuple[Export, list[str]]:
+    """What is asked for, before it is known what there is in the folder; and notes."""
+    plan = plans.plan_at(request.plan)
+    steps = steps_of(plan, request.plan)
+    commands = read_commands(request.commands)
+    placement = read_placement(request.placement, plan) if request.placement else Placement(plan, {}, {})
     try:
         commands.check_hosts(placement.host_of.values())
-        possible = possible_of(steps, arguments.universe)
-        if not arguments.lax and not arguments.is_up:
+        possible = possible_of(steps, request.universe)
+        if not request.is_lax and not request.is_up:
             commands.check_fits(possible)
     except Refused as refused:
-        raise Refused(f"{arguments.commands}: {refused}") from refused
-    folder = Folder(arguments.to)
+        raise Refused(f"{request.commands}: {refused}") from refused
+    folder = Folder(request.to)
     marks = folder.marks() if folder.has_plan() else {}
-    rules, without = rules_of(steps, commands, possible, marks if arguments.is_up else ())
-    if without and not arguments.lax:
-        raise Refused(f"{arguments.commands}: {no_rule(without, '' if arguments.is_up else LAX)}")
+    rules, without = rules_of(steps, commands, possible, marks if request.is_up else ())
+    if without and not request.is_lax:
+        raise Refused(f"{request.commands}: {no_rule(without, '' if request.is_up else LAX)}")
     notes = [f"nothing is done for {kinds_of(without)}: no step of the commands fits"] if without else []
-    sources, sums = (told_in(arguments.universe, key) if arguments.universe else {} for key in ("source", "sum"))
+    sources, sums = (told_in(request.universe, key) if request.universe else {} for key in ("source", "sum"))
     again = frozenset(key for key, mark in marks.items() if mark.more == STALE)
     whole = Export(plan, held(placement, steps), commands, placement.host_of, rules, sources=sources, names=folder.names())
     return dataclasses.replace(whole, sums=sums, done=frozenset(marks), again=again), notes

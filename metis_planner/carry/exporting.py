@@ -1,6 +1,5 @@
 """What `up` and `down` write into a folder and carry out there: plans with their hosts, by the engine that was chosen."""
 
-import argparse
 import pathlib
 import subprocess
 from collections.abc import Callable, Iterable, Iterator, Mapping, Sequence
@@ -9,11 +8,11 @@ from metis_planner.answers import Refused
 from metis_planner.carry import export
 from metis_planner.carry.ahead import kept_request
 from metis_planner.carry.commands import Commands, Rule
-from metis_planner.carry.engines import slurm
+from metis_planner.carry.engines import DEFAULT, ENGINES
 from metis_planner.carry.folder import PAST, PLAN, UNIVERSE, Folder, written
 from metis_planner.carry.possible import PossibleActions
 from metis_planner.carry.progress import progress_of
-from metis_planner.carry.request import ENGINES, Request
+from metis_planner.carry.request import Request
 from metis_planner.carry.seating import kept_placement
 from metis_planner.carry.stands import types_of
 from metis_planner.carry.status import lines_of
@@ -32,34 +31,27 @@ def exported(
     noted: Callable[[], None] = export.nothing,
 ) -> None:
     """Writes the plan into its folder, with what goes with it while nobody else writes there; and says what there is to say."""
-    words = export_words(request, plan, universe, placement)
-    words.noted = noted
-    for note in export.run(words, *ENGINES[request.engine]).notes:
+    for note in export.exported(export_request(request, plan, universe, placement), ENGINES[request.engine], noted):
         say(note)
 
 
-def export_words(
+def export_request(
     request: Request, plan: pathlib.Path, universe: pathlib.Path, placement: pathlib.Path | None
-) -> argparse.Namespace:
-    """The words of `metis make` for a plan."""
-    parser = argparse.ArgumentParser()
-    export.add_arguments(parser)
-    # A name that begins with a dash is a word's value by its =, and no word of its own.
-    words = [str(plan), f"--commands={request.commands}", f"--to={request.to}", f"--universe={universe}"]
-    found = parser.parse_args([*words, *([f"--placement={placement}"] if placement else [])])
-    # The commands were looked at before anybody was asked.
-    found.is_up = True
-    return found
+) -> export.ExportRequest:
+    """What is to be exported of a plan. The commands were looked at before anybody was asked."""
+    return export.ExportRequest(
+        plan=str(plan),
+        commands=request.commands,
+        to=request.to,
+        universe=str(universe),
+        placement=str(placement) if placement else None,
+        is_up=True,
+    )
 
 
 def carried_out(request: Request, folder: Folder) -> int:
     """Runs the engine in the folder, whose own lines are its progress, and says at the end how far it is."""
-    words = {
-        "make": ["make", "-s", f"-j{request.jobs}", "-C", request.to],
-        "ninja": ["ninja", f"-j{request.jobs}", "-C", request.to],
-        "slurm": ["sh", str(folder.path.absolute() / slurm.NAME)],
-    }
-    status = subprocess.run(words[request.engine], check=False).returncode
+    status = subprocess.run(ENGINES[request.engine].command(request.to, request.jobs), check=False).returncode
     for line in lines_of(progress_of(folder), str(folder.path)):
         say(line)
     return status
@@ -100,9 +92,9 @@ def kept_commands(folder: Folder) -> str | None:
 
 def written_again(folder: Folder, way: Way, texts: pathlib.Path) -> None:
     """Writes a folder for a list that is all done, by the commands, the engine and the hosts that it had."""
-    commands, engine = kept_commands(folder), str(kept_request(folder).get("engine", "make"))
+    commands, engine = kept_commands(folder), str(kept_request(folder).get("engine", DEFAULT))
     assert commands is not None
-    request = Request("", (), commands, str(folder.path), engine=engine if engine in ENGINES else "make")
+    request = Request("", (), commands, str(folder.path), engine=engine if engine in ENGINES else DEFAULT)
     placement = kept_placement(folder.steps(), folder.marks(), way.plan.actions)
     paths = {name: texts / name for name in (PLAN, UNIVERSE, PLACED)}
     for name, text in ((PLAN, written(way.plan)), (UNIVERSE, way.universe), (PLACED, placement or "")):

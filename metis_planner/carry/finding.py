@@ -9,8 +9,9 @@ from typing import NamedTuple
 
 from metis_planner.answers import Refused
 from metis_planner.carry.folder import Folder
+from metis_planner.carry.jobs import JobLine
 from metis_planner.carry.steps import Step, lanes
-from metis_planner.carry.verify import SAID, has_check_of, words_of
+from metis_planner.carry.verify import SAID, has_check_of, jobs_of
 from metis_planner.text import plans
 from metis_planner.text.actions import Delete, Move, New
 from metis_planner.text.terminal import plain
@@ -20,8 +21,6 @@ DECOY = 900_001  # the number of an instance that there is not
 AT_ONCE, ROUNDS, SECONDS_BETWEEN = 16, 2, 1.0
 LONGEST = 100
 MOST_LOOKED_FOR = 1_000
-# Where the number of the instance stands among the words of a job.
-NUMBER_AT = 5
 
 
 class Said(NamedTuple):
@@ -31,9 +30,9 @@ class Said(NamedTuple):
     reason: str = ""
 
 
-def ask(folder: Folder, words: Sequence[str]) -> Said:
+def ask(folder: Folder, job: JobLine) -> Said:
     """What the check of a step says."""
-    call = ["./run", "-c", *words]
+    call = ["./run", "-c", *job.words()]
     done = subprocess.run(
         call, cwd=folder.path, stdin=subprocess.DEVNULL, capture_output=True, text=True, errors="replace", check=False
     )
@@ -44,15 +43,15 @@ def ask(folder: Folder, words: Sequence[str]) -> Said:
     return Said(YES if status == "0" else NO, plain(lines[-1], LONGEST) if lines else f"status {status}")
 
 
-def ask_all(folder: Folder, jobs: Iterable[Sequence[str]]) -> list[Said]:
+def ask_all(folder: Folder, jobs: Iterable[JobLine]) -> list[Said]:
     with concurrent.futures.ThreadPoolExecutor(AT_ONCE) as pool:
-        return list(pool.map(lambda words: ask(folder, words), jobs))
+        return list(pool.map(lambda job: ask(folder, job), jobs))
 
 
-def for_number(step: Step, words: Sequence[str], number_of: Mapping[int, int], own: int) -> list[str]:
-    """The words of a step's job for an instance of another number; what it is bound to has the numbers found so far."""
-    more = [f"{each.port}={each.name_by(number_of.get(each.instance, each.instance))}" for each in step.bound]
-    return [f"{own}.{words[0]}", *words[1:NUMBER_AT], str(own), *words[NUMBER_AT + 1 : len(words) - len(more)], *more]
+def for_number(step: Step, job: JobLine, number_of: Mapping[int, int], own: int) -> JobLine:
+    """A step's job for an instance of another number; what it is bound to has the numbers found so far."""
+    bound = [f"{each.port}={each.name_by(number_of.get(each.instance, each.instance))}" for each in step.bound]
+    return job.for_instance(own, bound)
 
 
 @dataclasses.dataclass
@@ -66,7 +65,7 @@ class Search:
     open: dict[str, list[int]] = dataclasses.field(default_factory=dict)  # what was found of types that are not settled
 
     def __post_init__(self) -> None:
-        self.words = words_of(self.folder, self.steps)
+        self.jobs = jobs_of(self.folder, self.steps)
         self.lanes: dict[str, list[list[Step]]] = {}
         for lane in lanes(self.steps).values():
             self.lanes.setdefault(lane[0].action.type, []).append(lane)
@@ -77,11 +76,11 @@ class Search:
         self.settled = {kind: list(numbers) for kind, numbers in self.given.items()}
 
     def last_checked(self, lane: Iterable[Step]) -> Step | None:
-        found = [step for step in lane if isinstance(step.action, Move) and has_check_of(self.folder, self.words[step.key])]
+        found = [step for step in lane if isinstance(step.action, Move) and has_check_of(self.folder, self.jobs[step.key])]
         return found[-1] if found else None
 
     def asked(self, step: Step, number_of: Mapping[int, int], numbers: Iterable[int]) -> list[Said]:
-        return ask_all(self.folder, [for_number(step, self.words[step.key], number_of, number) for number in numbers])
+        return ask_all(self.folder, [for_number(step, self.jobs[step.key], number_of, number) for number in numbers])
 
     def number_of(self) -> dict[int, int]:
         """The number of each instance of the plan where it runs, as far as that is settled."""
@@ -147,12 +146,12 @@ def all_numbers(plan: plans.Plan, found: Mapping[int, int]) -> dict[int, int]:
 
 def verdicts(folder: Folder, steps: Sequence[Step], trusted: Collection[str], blind: Collection[str]) -> dict[str, Said]:
     """What the checks say, twice alike. Of an instance the last state that holds tells of all before it."""
-    words = words_of(folder, steps)
-    asked_of = [step for step in steps if isinstance(step.action, New | Move) and has_check_of(folder, words[step.key])]
+    jobs = jobs_of(folder, steps)
+    asked_of = [step for step in steps if isinstance(step.action, New | Move) and has_check_of(folder, jobs[step.key])]
     rounds = []
     for turn in range(ROUNDS):
         time.sleep(SECONDS_BETWEEN if turn else 0)
-        rounds.append(ask_all(folder, [words[step.key] for step in asked_of]))
+        rounds.append(ask_all(folder, [jobs[step.key] for step in asked_of]))
     found = {step.key: agreed(step, said, trusted, blind) for step, *said in zip(asked_of, *rounds)}
     for lane in lanes(steps).values():  # who is in a later state has left the earlier ones
         is_later = False

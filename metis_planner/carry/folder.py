@@ -52,7 +52,6 @@ FOLDER_LOCK = ".folder"
 # As `run` writes a host that there is not.
 NO_HOST = ":"
 LOOKS = 20
-ENGINE_FILES = ("Makefile", "build.ninja", "submit")
 ROLLOUT = re.compile(rf"({plans.NUMBER.pattern}) ({plans.NUMBER.pattern}) ({plans.NUMBER.pattern})")
 
 
@@ -322,9 +321,9 @@ class Folder:
         write_whole(self.path / ROLLOUTS, lines)
         write_whole(self.path / PLAN, text)
 
-    def drop_engines(self, but: str = "", digest: str = "") -> None:
+    def drop_files(self, names: Iterable[str], but: str = "", digest: str = "") -> None:
         """Takes away what engines read of another plan, or by other commands."""
-        for name in ENGINE_FILES:
+        for name in names:
             path = self.path / name
             if name != but and path.exists() and not (digest and digest in head_of(path)):
                 path.unlink()

@@ -1,6 +1,5 @@
 """From which plan a plan goes on: from the one in its folder, from what is done there, or from one that is named."""
 
-import argparse
 import dataclasses
 import itertools
 from collections.abc import Sequence
@@ -21,27 +20,37 @@ class BasePlan:
     notes: tuple[str, ...] = ()
 
 
-def origin_of_new(plan: plans.Plan, steps: Sequence[Step], arguments: argparse.Namespace) -> BasePlan:
+@dataclasses.dataclass(frozen=True, kw_only=True)
+class Ground:
+    """What is said of where a plan goes on from: its file, its folder, older plans, and whether nothing of it is a rollout."""
+
+    plan: str
+    to: str
+    olds: tuple[str, ...] = ()
+    is_alone: bool = False
+
+
+def origin_of_new(plan: plans.Plan, steps: Sequence[Step], ground: Ground) -> BasePlan:
     """For a folder that has no plan, or one of which nothing is done."""
-    if arguments.waits_alone:
+    if ground.is_alone:
         return BasePlan(())
-    counts = counts_of(plan, arguments.plan, arguments.olds)
+    counts = counts_of(plan, ground.plan, ground.olds)
     gone = sign_of_a_rollout(steps[: counts[0]] if counts else steps)
     if gone:
         raise Refused(
-            f"{arguments.plan}: a rollout, since by action {gone.action.number} {who(gone.action)} goes, and with it all "
+            f"{ground.plan}: a rollout, since by action {gone.action.number} {who(gone.action)} goes, and with it all "
             "that it was bound to. Say by --from OLD from which plan it goes on; where it is none, say --waits-alone"
         )
     if not counts:
         return BasePlan(())
     note = (
-        f"it goes on from {counts[-1]} actions: make does those of them that are not done in {arguments.to}, too. Where "
+        f"it goes on from {counts[-1]} actions: make does those of them that are not done in {ground.to}, too. Where "
         f"what they leave stands already, `make -t old-{len(counts)}` marks them as done"
     )
-    return BasePlan(rollouts_at(steps, counts, arguments.plan), (note,))
+    return BasePlan(rollouts_at(steps, counts, ground.plan), (note,))
 
 
-def origin_there(folder: Folder, plan: plans.Plan, steps: Sequence[Step], arguments: argparse.Namespace) -> BasePlan:
+def origin_there(folder: Folder, plan: plans.Plan, steps: Sequence[Step], ground: Ground) -> BasePlan:
     """For a folder that has a plan."""
     before = folder.plan()
     done = folder.done(steps)
@@ -51,11 +60,11 @@ def origin_there(folder: Folder, plan: plans.Plan, steps: Sequence[Step], argume
     elif done and all(step.key in done for step in steps[: len(done)]):
         earlier, counts = (), [len(done)]
     else:
-        return origin_of_new(plan, steps, arguments)
-    if arguments.waits_alone:
+        return origin_of_new(plan, steps, ground)
+    if ground.is_alone:
         return BasePlan(())
-    rollouts = (*earlier, *rollouts_at(steps, counts, arguments.plan))
-    for named in counts_of(plan, arguments.plan, arguments.olds):
+    rollouts = (*earlier, *rollouts_at(steps, counts, ground.plan))
+    for named in counts_of(plan, ground.plan, ground.olds):
         if named not in [rollout.old for rollout in rollouts]:
             raise Refused(f"{folder.path}: its plan does not go on from the {named} actions that --from names")
     if not rollouts or not rollouts[-1].has_fresh():

@@ -12,17 +12,12 @@ from metis_planner.answers import Refused
 from metis_planner.carry.ahead import REQUEST, Wanted, is_asked_again, kept_request, request_text, text_of_wishes
 from metis_planner.carry.compose import COMMANDS, FOLDER, TARGET, Project, is_project, kept_in, project_at
 from metis_planner.carry.configuration import CONFIGURATION, checked_jobs, configured, is_of
-from metis_planner.carry.engines import make, ninja, slurm
+from metis_planner.carry.engines import DEFAULT, ENGINES
 from metis_planner.carry.folder import Folder, sum_of
 from metis_planner.carry.named_wishes import EVERYBODY, Wishes
 from metis_planner.carry.writing import write_whole
 from metis_planner.text import plans
 
-ENGINES = {
-    "make": (make.NAME, make.makefile),
-    "ninja": (ninja.NAME, ninja.ninja_file),
-    "slurm": (slurm.NAME, slurm.script),
-}
 DEFAULT_JOBS = 8
 # Behind what was asked for: the plan in the folder is the one of what is lacking.
 FIRST = " first"
@@ -52,7 +47,7 @@ class Request:
     commands: str
     to: str
     hosts: str | None = None
-    engine: str = "make"
+    engine: str = DEFAULT
     jobs: int = DEFAULT_JOBS
     wishes: str | None = None
     lines: tuple[str, ...] = ()  # wishes that were said by --wish
@@ -90,7 +85,7 @@ def request_of(arguments: argparse.Namespace) -> Request:
     if lacking:
         verb = "is" if len(lacking) == 1 else "are"
         raise Refused(f"{' and '.join(lacking)} {verb} not said, and {CONFIGURATION} does not say so")
-    engine = arguments.engine or found.get("engine", "make")
+    engine = arguments.engine or found.get("engine", DEFAULT)
     if engine not in ENGINES:
         raise Refused(f"no engine {plans.shown(engine)}; there are {', '.join(ENGINES)}")
     return Request(

@@ -11,6 +11,7 @@ from typing import TYPE_CHECKING
 from metis_planner.answers import Refused
 from metis_planner.carry import ansible
 from metis_planner.carry.commands import Commands, Host
+from metis_planner.carry.engines import ENGINES
 from metis_planner.carry.folder import EXPORT, INVENTORY, JOBS, STEPS, Folder
 from metis_planner.carry.writing import write_whole
 
@@ -37,7 +38,7 @@ def write_folder(folder: Folder, export: "Export", text: str, name: str) -> None
     folder.write_plan(export.plan_text, export.rollouts)
     write_whole(folder.path / EXPORT, f"{export.digest}\n")
     write_whole(folder.path / name, text)
-    folder.drop_engines(but=name, digest=export.digest)
+    folder.drop_files(ENGINES.files(), but=name, digest=export.digest)
 
 
 def inventory_of(export: "Export") -> str:

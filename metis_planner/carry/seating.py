@@ -10,10 +10,10 @@ from collections.abc import Collection, Iterator, Mapping, Sequence
 
 from metis_planner.answers import Refused
 from metis_planner.carry.folder import JOBS, NO_HOST, Folder, Mark
+from metis_planner.carry.jobs import job_lines_in
 from metis_planner.carry.steps import Step
 from metis_planner.text import plans
 from metis_planner.text.actions import Action, Delete, New
-from metis_planner.text.reading import read_text
 
 HOST = re.compile(rf"host ({plans.NAME.pattern}) ({plans.NUMBER.pattern})")
 SIZE = re.compile(rf"size ({plans.NAME.pattern}) ({plans.NUMBER.pattern})")
@@ -123,9 +123,8 @@ def hosts_of(folder: Folder) -> dict[int, str]:
         return {}
     steps, marks = folder.steps(), folder.marks()
     begun = {step.key for step in folder.begun(steps, set(marks))}
-    path = folder.path / JOBS
-    words = (line.split(" ") for line in read_text(str(path), plans.MOST_BYTES).splitlines()) if path.is_file() and begun else ()
-    host_of = {each[0]: each[3] for each in words if len(each) > 3 and each[0] in begun}
+    jobs = job_lines_in(folder.path) if begun and (folder.path / JOBS).is_file() else ()
+    host_of = {job.key: job.host for job in jobs if job.key in begun}
     found = {step.action.instance: host_of[step.key] for step in steps if step.key in host_of}
     found |= {step.action.instance: marks[step.key].host for step in steps if step.key in marks}
     return {instance: host for instance, host in found.items() if host not in ("", NO_HOST)}

@@ -11,6 +11,7 @@ import shutil
 from collections.abc import Iterable, Sequence
 
 from metis_planner.answers import Answer, Refused
+from metis_planner.carry.engines import ENGINES
 from metis_planner.carry.folder import DONE, LOG, PLAN, Folder, part_of, written
 from metis_planner.carry.steps import Step
 from metis_planner.carry.writing import write_whole
@@ -34,7 +35,7 @@ def run(arguments: argparse.Namespace) -> Answer:
         check_parts(folder, steps, old, fresh_end, done)
         names = [name for step in steps[old:] for name in names_of(step)]
         write_new(folder, new, names, written(part_of(steps[old:], done)))
-        folder.drop_engines()
+        folder.drop_files(ENGINES.files())
         # From here on the marks of what is new count no more, also if this is ended before they are gone.
         kept = written(plans.Plan(plan.actions[:old], ()))
         folder.part_with(names, kept)

@@ -13,6 +13,7 @@ from collections.abc import Iterable, Mapping, Sequence
 from typing import NamedTuple
 
 from metis_planner.carry import folder as folders
+from metis_planner.carry.engines import ENGINES
 from metis_planner.carry.folder import AGAIN, DONE, LOG, NO_HOST, NUMBER, PAST, TURN, Folder, Mark
 from metis_planner.carry.rollouts import Rollout
 from metis_planner.carry.steps import Step
@@ -112,7 +113,7 @@ def turn_to(
     folder.note_format()
     prepare(folder, plan, rollouts, known, files or {})
     (folder.path / folders.EXPORT).unlink(missing_ok=True)
-    folder.drop_engines()
+    folder.drop_files(ENGINES.files())
     sync_folder(folder.path)
     (folder.path / NEXT).rename(folder.path / TURN)
     sync_folder(folder.path)

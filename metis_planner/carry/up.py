@@ -23,10 +23,11 @@ from metis_planner.carry.agreeing import asked, check_agreed, check_known, check
 from metis_planner.carry.ahead import kept_request
 from metis_planner.carry.calling import Call
 from metis_planner.carry.commands import commands_of, read_commands
+from metis_planner.carry.engines import ENGINES
 from metis_planner.carry.folder import Folder
 from metis_planner.carry.judging import Judge
 from metis_planner.carry.proposing import proposed
-from metis_planner.carry.request import DEFAULT_JOBS, ENGINES, FIRST, asked_sum, protected, request_of
+from metis_planner.carry.request import DEFAULT_JOBS, FIRST, asked_sum, protected, request_of
 from metis_planner.carry.stands import types_of
 from metis_planner.carry.telling import Proposal
 from metis_planner.look.sketch import document_of

@@ -14,27 +14,26 @@ from collections.abc import Sequence
 
 from metis_planner.answers import Answer, Refused
 from metis_planner.carry.configuration import add_folder, folder_of
-from metis_planner.carry.folder import JOBS, LOG, Busy, Folder
+from metis_planner.carry.folder import JOBS, LOG, STEPS, Busy, Folder
 from metis_planner.carry.going_over import without_the_gone
+from metis_planner.carry.jobs import JobLine, job_lines_in
 from metis_planner.carry.own import check_own
 from metis_planner.carry.steps import Step, lanes, who
 from metis_planner.carry.taking_back import take_back, with_followers
 from metis_planner.text.actions import Delete, Move, New, in_words
-from metis_planner.text.reading import read_text
 from metis_planner.text.terminal import plain, say
 
 AT_ONCE = 16
 LONGEST = 200
-MOST_BYTES = 268_435_456
 
 
 @dataclasses.dataclass(frozen=True)
 class Standing:
-    """An instance that stands as far as the marks say: the step that brought it into its state, and the words of its check."""
+    """An instance that stands as far as the marks say: the step that brought it into its state, and its job."""
 
     step: Step
     state: str
-    words: tuple[str, ...]
+    job: JobLine
 
 
 @dataclasses.dataclass(frozen=True)
@@ -59,17 +58,17 @@ NOT_KNOWN = 75  # as of a lock that somebody else holds: ask again
 SAID = "== said "
 
 
-def words_of(folder: Folder, steps: Sequence[Step]) -> dict[str, tuple[str, ...]]:
+def jobs_of(folder: Folder, steps: Sequence[Step]) -> dict[str, JobLine]:
     """By which words `run` does each step, as the export wrote them down."""
-    lines = read_text(str(folder.path / JOBS), MOST_BYTES).splitlines()
+    lines = job_lines_in(folder.path)
     if len(lines) != len(steps):
         raise Refused(f"{folder.path / JOBS}: not the jobs of the plan: export it anew")
-    return {step.key: tuple(line.split(" ")) for step, line in zip(steps, lines)}
+    return {step.key: line for step, line in zip(steps, lines)}
 
 
 def standing_in(folder: Folder, steps: Sequence[Step], done: set[str]) -> list[Standing]:
     """The instances that were made and not deleted, each with the last move that is done, or else its making."""
-    found, words = [], words_of(folder, steps)
+    found, jobs = [], jobs_of(folder, steps)
     going = going_in(folder, steps, done)
     for lane in lanes(steps).values():
         own = [step for step in lane if step.key in done]
@@ -77,7 +76,7 @@ def standing_in(folder: Folder, steps: Sequence[Step], done: set[str]) -> list[S
             continue
         last = [step for step in own if isinstance(step.action, New | Move)][-1]
         state = last.action.end if isinstance(last.action, Move) else "made"
-        found.append(Standing(last, state, words[last.key]))
+        found.append(Standing(last, state, jobs[last.key]))
     return found
 
 
@@ -87,18 +86,17 @@ def going_in(folder: Folder, steps: Sequence[Step], done: set[str]) -> frozenset
 
 
 def has_check(folder: Folder, standing: Standing) -> bool:
-    return has_check_of(folder, standing.words)
+    return has_check_of(folder, standing.job)
 
 
-def has_check_of(folder: Folder, words: Sequence[str]) -> bool:
-    rule = words[1]
-    return any((folder.path / "steps").glob(f"{rule}-*.check.sh"))
+def has_check_of(folder: Folder, job: JobLine) -> bool:
+    return any((folder.path / STEPS).glob(f"{job.rule}-*.check.sh"))
 
 
 def ask(folder: Folder, standing: Standing) -> Asked:
     if not has_check(folder, standing):
         return Asked(standing, UNASKED)
-    words = ["./run", "-c", *standing.words]
+    words = ["./run", "-c", *standing.job.words()]
     done = subprocess.run(words, cwd=folder.path, stdin=subprocess.DEVNULL, capture_output=True, text=True, errors="replace", check=False)
     return Asked(standing, *verdict_of(done.returncode, lines_in(done.stdout), lines_in(done.stderr), in_words(standing.step.action)))
 

@@ -5,14 +5,14 @@ from collections.abc import Iterator
 
 from metis_planner.answers import Answer, Refused
 from metis_planner.carry import export
+from metis_planner.carry.engines import Engine
 from metis_planner.carry.export import Export, add_arguments
 from metis_planner.carry.rollouts import barrier_of, ends_of, longest_chain
 from metis_planner.carry.steps import Step
 from metis_planner.text.actions import Delete, New, Unbind, in_words
 
-__all__ = ["add_arguments", "run"]
+__all__ = ["ENGINE", "add_arguments", "run"]
 
-NAME = "Makefile"
 # GNU make goes along a chain by recursion, and anew after each action (metis_planner/carry/README.md has figures).
 MOST_IN_A_ROW = 10_000
 
@@ -41,7 +41,7 @@ endif
 
 
 def run(arguments: argparse.Namespace) -> Answer:
-    return export.run(arguments, NAME, makefile)
+    return export.run(arguments, ENGINE)
 
 
 def makefile(found: Export) -> Iterator[str]:
@@ -78,3 +78,10 @@ def marks_before(found: Export, step: Step) -> str:
 
 def marks(keys: Iterator[str] | list[str]) -> str:
     return "".join(f" done/{key}" for key in keys)
+
+
+def command(folder: str, jobs: int) -> list[str]:
+    return ["make", "-s", f"-j{jobs}", "-C", folder]
+
+
+ENGINE = Engine(file="Makefile", text_of=makefile, command=command)

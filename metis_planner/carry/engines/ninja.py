@@ -6,16 +6,15 @@ from collections.abc import Iterator
 
 from metis_planner.answers import Answer
 from metis_planner.carry import export
-from metis_planner.carry.engines.make import marks, marks_before
 from metis_planner.carry.commands import Rule
+from metis_planner.carry.engines import Engine
+from metis_planner.carry.engines.make import marks, marks_before
 from metis_planner.carry.export import Export, Job, add_arguments
 from metis_planner.carry.rollouts import ends_of
 from metis_planner.carry.steps import Step
 from metis_planner.text.actions import in_words
 
-__all__ = ["add_arguments", "run"]
-
-NAME = "build.ninja"
+__all__ = ["ENGINE", "add_arguments", "run"]
 
 HEAD = """\
 # {actions} actions. Made by `metis ninja`: change the commands, and make it anew.
@@ -36,7 +35,7 @@ rule do
 
 
 def run(arguments: argparse.Namespace) -> Answer:
-    return export.run(arguments, NAME, ninja_file)
+    return export.run(arguments, ENGINE)
 
 
 def ninja_file(found: Export) -> Iterator[str]:
@@ -66,3 +65,10 @@ def pool_of(found: Export, step: Step, rule: Rule) -> str:
     """The pool of those that are done one at a time. `run` sees to that too, but here none takes a place while it waits."""
     host = re.sub(r"[^A-Za-z0-9]", "_", found.host(step.action.instance))
     return f"{rule.lock}.{host}"
+
+
+def command(folder: str, jobs: int) -> list[str]:
+    return ["ninja", f"-j{jobs}", "-C", folder]
+
+
+ENGINE = Engine(file="build.ninja", text_of=ninja_file, command=command)

@@ -3,18 +3,20 @@ that it waits for. The folder has to be one that all nodes see.
 """
 
 import argparse
+import pathlib
 import shlex
 from collections.abc import Iterator
 
 from metis_planner.answers import Answer
 from metis_planner.carry import export
+from metis_planner.carry.engines import Engine
 from metis_planner.carry.export import Export, add_arguments
 from metis_planner.carry.rollouts import again_before, barrier_of, ends_of
 from metis_planner.text.actions import Delete, Unbind, in_words
 
-__all__ = ["add_arguments", "run"]
+__all__ = ["ENGINE", "add_arguments", "run"]
 
-NAME = "submit"
+FILE = "submit"
 
 HEAD = """\
 #!/bin/sh
@@ -45,7 +47,7 @@ done
 
 
 def run(arguments: argparse.Namespace) -> Answer:
-    return export.run(arguments, NAME, script)
+    return export.run(arguments, ENGINE)
 
 
 def script(found: Export) -> Iterator[str]:
@@ -72,3 +74,11 @@ def script(found: Export) -> Iterator[str]:
     paths = [*(f"done/{key}" for key in ends_of(found.steps)), *(f"again/{key}" for key in sorted(found.again))]
     yield f"last={ends}\npaths='{' '.join(paths)}'\n"
     yield TAIL.format()
+
+
+def command(folder: str, jobs: int) -> list[str]:
+    """How many run at once Slurm says."""
+    return ["sh", str(pathlib.Path(folder).absolute() / FILE)]
+
+
+ENGINE = Engine(file=FILE, text_of=script, command=command)
