@@ -94,7 +94,7 @@ def try_sizes(top: pathlib.Path, actions: int) -> None:
             words = [
                 sys.executable,
                 "-m",
-                "exporters",
+                "metis_planner",
                 form,
                 plan,
                 "--commands",
@@ -105,7 +105,7 @@ def try_sizes(top: pathlib.Path, actions: int) -> None:
             status, said, took = measured(words)
             is_refused = (name, form) == ("long", "make")
             expect(status == is_refused and ("use ninja" in said) == is_refused, said)
-            print(f"  exporters {form}: {took}{', refused' if is_refused else ''}", flush=True)
+            print(f"  metis {form}: {took}{', refused' if is_refused else ''}", flush=True)
     for words in (["make", "-n"], ["ninja", "-n"]):
         status, said, took = measured([*words, "-C", top / "f-wide"])
         expect(status == 0, said)

@@ -11,8 +11,8 @@ import subprocess
 import time
 import unittest
 
-from tests.carry.shapes import LINE, WEB, call, plan_text
-from tests.carry.test_kept import BY_ENV, Placed
+from tests.carry.shapes import LINE, call
+from tests.carry.test_kept import Placed
 from tests.carry.test_life import ONE, Waiting
 from tests.effort import DEADLINE, FOREVER, is_running, wait_until
 from tests.test_words import TOP

@@ -20,7 +20,7 @@ from tests.carry.shapes import LINE, ROLLED, TAKEN_DOWN, WEB, FolderCase, call, 
 from tests.carry.test_kept import Placed
 from tests.carry.test_up import UNIVERSE, UpCase
 from tests.effort import FOREVER, is_running
-from tests.stand_in import Answer, stand_in
+from tests.stand_in import Answer
 from tests.test_words import TOP
 
 

@@ -17,7 +17,7 @@ from metis_planner.carry.folder import Folder
 from metis_planner.carry.taking_back import take_back
 from tests.carry.shapes import WEB, call, plan_text
 from tests.carry.test_kept import Placed
-from tests.effort import FOREVER, wait_until
+from tests.effort import FOREVER
 
 TWO = plan_text("new 0 A", "move 0 off on", "new 1 B", "move 1 off on")
 QUIET = "".join(f'[[step]]\nwhen = "{when}"\nrun = ""\n' for when in ("*: new", "*: bind *", "*: unbind *"))

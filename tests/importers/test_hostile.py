@@ -16,7 +16,7 @@ from metis_planner.answers import Refused
 from metis_planner.importers import kubernetes
 from metis_planner.importers.kubernetes import input
 from metis_planner.text.terminal import plain
-from tests.effort import LATER, SOON, soon
+from tests.effort import SOON, soon
 from tests.test_words import TOP
 
 try:

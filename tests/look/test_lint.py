@@ -165,7 +165,7 @@ class PackagesTest(unittest.TestCase):
             self.assertEqual((status, out), (1, "c needs d, which nothing gives\n"))
 
 
-class ProjectTest(unittest.TestCase):
+class NotedTest(unittest.TestCase):
     def linted(self, project, *words):
         with tempfile.TemporaryDirectory() as folder:
             file = pathlib.Path(folder, "compose.json")
